@@ -1,0 +1,16 @@
+//! A step machine for a subset of the MC68020: its registers, its storage, and what each instruction does.
+#![tactic(auto)]
+
+mod arithmetic;
+mod condition_codes;
+mod control;
+mod instruction;
+mod logic;
+mod machine;
+mod moves;
+pub mod operand;
+pub mod registers;
+pub mod storage;
+
+pub use machine::{Machine, Sizes, Step};
+pub use registers::{Effect, Flags, Next, Registers, Why};
