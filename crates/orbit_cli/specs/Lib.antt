@@ -1,2 +1,4 @@
-pub mod Words
 pub mod Command
+pub mod Lines
+pub mod Statuses
+pub mod Words

@@ -2,4 +2,8 @@
 //! contract of `orbit` is the promise of the whole program.
 #![tactic(auto)]
 
+mod lines;
+mod status;
 mod words;
+
+pub use status::Status;
