@@ -76,6 +76,10 @@ IsNamed names (exit.Fault fault) = Unit {0}
 IsNamed names (exit.Full stack asked left) = Unit {0}
 IsNamed names (exit.Stop why at) = Unit {0}
 
+abbrev pub EndIsNamed : List (List ℕ) → Option Exit → Type 0
+EndIsNamed names (Some how) = IsNamed names how
+EndIsNamed names None = Unit {0}
+
 abbrev pub AnswerIsNamed : List (List ℕ) → End → Type 0
 AnswerIsNamed names (answer.Done face) = FaceIsNamed names face
 AnswerIsNamed names (answer.Fault fault) = Unit {0}
