@@ -3,6 +3,7 @@
 #![tactic(auto)]
 
 mod lines;
+mod prepare;
 mod status;
 mod words;
 
