@@ -98,6 +98,12 @@ pub record IsAt {S : Type 0} (took : S → List ℕ → S → Type 0) (b : Loade
   pub going : (run_on b m).end ≡ None
   pub given : took old (run_on b m).output new
 
+-- the run has ended, the program is loaded as the run has it, and the sink took its output
+pub record Ends {S : Type 0} (took : S → List ℕ → S → Type 0) (b : Loaded) (n : ℕ) (d : Loaded) (e : Exit) (old new : S) : Type 0 where
+  pub end : (run_on b n).end ≡ Some e
+  pub loaded : d ≡ after b (run_on b n)
+  pub given : took old (run_on b n).output new
+
 -- one instruction more, where the program is loaded as the run has it
 run_on-next : (b c : Loaded) (m : ℕ) → c ≡ after b (run_on b m) → (run_on b m).end ≡ None → run_on b (m + 1) ≡ followed (run_on b m) (act c.names c.state)
 run_on-next b c m loaded going =
@@ -141,12 +147,7 @@ module _ {S : Type 0} (took : S → List ℕ → S → Type 0) (both : (a b c : 
   }
 
   -- The end comes with the next instruction.
-  pub record Ends (b : Loaded) (n : ℕ) (d : Loaded) (e : Exit) (old new : S) : Type 0 where
-    pub end : (run_on b n).end ≡ Some e
-    pub loaded : d ≡ after b (run_on b n)
-    pub given : took old (run_on b n).output new
-
-  pub ends_here : (b c d : Loaded) (m n : ℕ) (e : Exit) (x y z : S) → IsAt took b m c x y → m + 1 ≤ n → d ≡ after c (act c.names c.state) → Some e ≡ (act c.names c.state).end → took y (act c.names c.state).output z → Ends b n d e x z
+  pub ends_here : (b c d : Loaded) (m n : ℕ) (e : Exit) (x y z : S) → IsAt took b m c x y → m + 1 ≤ n → d ≡ after c (act c.names c.state) → Some e ≡ (act c.names c.state).end → took y (act c.names c.state).output z → Ends took b n d e x z
   ends_here b c d m n e x y z at le is ended t =
       let end : (run_on b (m + 1)).end ≡ Some e = turn_end b c m x y at ∙ sym ended in
       let all = run_on-by b (m + 1) n e end le in record {

@@ -37,9 +37,9 @@ pub enum End {
 
 impl From<Exit> for End {
     ghost use Rattle.std.specs.Prelude.{◌≡◌, Some};
-    ghost use Rattle.orbit_monitor.specs.Answering.{answer_of};
+    ghost use Rattle.orbit_monitor.specs.Answering.{exit_of};
 
-    ghost from_gives = { λ exit answer. answer ≡ answer_of (Some exit) };
+    ghost from_gives = { λ exit answer. exit_of answer ≡ Some exit };
 
     fn from(exit: Exit) -> End {
         match exit {

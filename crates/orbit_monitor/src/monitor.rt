@@ -3,7 +3,7 @@
 ghost use Rattle.std.specs.Prelude.{◌≡◌, ◌<◌, ◌≤◌, length, None, Some, slice_get, IfOk, OnOk, OnErr, IfSome};
 ghost use Rattle.t_ports.specs.Causes.{HasCause, Rose};
 ghost use Rattle.orbit_monitor.specs.Run.{act};
-ghost use Rattle.orbit_monitor.specs.Answering.{run_on, after, answer_of, IsNamed, AnswerIsNamed, IfSink, IfRan, FailsAtPut};
+ghost use Rattle.orbit_monitor.specs.Answering.{run_on, after, exit_of, IsNamed, AnswerIsNamed, IfSink, IfRan, FailsAtPut};
 ghost use Rattle.orbit_monitor.specs.Turn.{OutcomeIsNamed, settled, FailsInTurn};
 
 use crate::end::{End, Exit};
@@ -96,12 +96,13 @@ fn turn<S: Sink>(boot: &mut Boot, out: &mut S) -> Result<Option<Exit>, Failed>
 /// Runs at most so many instructions. After `Steps` a second run goes on. After `Sink` it goes on behind the service whose
 /// put failed, and that service puts nothing again. After every other end it answers that end again.
 pub fn run<S: Sink>(boot: &mut Boot, steps: u64, out: &mut S) -> End
-    // An answer other than Sink is that of the run at so many instructions,
-    ensures end { IfRan result (result ≡ answer_of (run_on boot.old steps).end) }
-    // and then the sink took exactly what these put.
+    // An answer other than Sink says how the run ended within so many instructions, and Steps that it did not.
+    ensures end { IfRan result ((run_on boot.old steps).end ≡ exit_of result) }
+    // Then the sink took exactly what these put.
     ensures took { IfRan result (S.took out.old (run_on boot.old steps).output out.new) }
     ensures loaded { IfRan result (boot.new ≡ after boot.old (run_on boot.old steps)) }
-    ensures named { AnswerIsNamed boot.old.names result }
+    ensures names { boot.new.names ≡ boot.old.names }
+    ensures named { AnswerIsNamed boot.new.names result }
     ensures sink { IfSink result (FailsAtPut S.took boot.old steps boot.new out.old out.new) }
     ensures cause { IfSink result (Rose (S.faults out.old) (S.faults out.new)) }
     ensures later { S.faults out.old ≤ S.faults out.new }

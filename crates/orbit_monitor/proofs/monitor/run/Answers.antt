@@ -3,7 +3,7 @@ use Rattle.orbit_monitor.specs.declared.end.Exit.{Exit}
 use Rattle.orbit_monitor.specs.declared.end.End.{End}
 use Rattle.orbit_monitor.specs.declared.end.End.TheVariants as answer
 use Rattle.orbit_monitor.specs.Run.{Progress}
-use Rattle.orbit_monitor.specs.Answering.{Loaded, run_on, after, answer_of, IfRan}
+use Rattle.orbit_monitor.specs.Answering.{Loaded, run_on, after, IfRan}
 use Rattle.orbit_monitor.proofs.Turns.{run_on-ended, goes_further, Ends, ends_here, fails_here}
 use Rattle.orbit_monitor.proofs.monitor.run.Goals as goal
 
@@ -19,7 +19,7 @@ pub returns-in-Some-clause-end : goal.returns-in-Some-clause-end
 returns-in-Some-clause-end g c =
     let e = sym (ap (λ (l : Loaded). l.end) c.boot.view_is) ∙ c.in-Some.is in
     let ended = ap (λ (p : Progress). p.end) (run_on-ended c.args.boot.now c.args.steps c.in-Some.exit e) ∙ e in
-    if_ran _ _ (c.from.ensures ∙ sym (ap answer_of ended))
+    if_ran _ _ (ended ∙ sym c.from.ensures)
 
 pub returns-in-Some-clause-took : goal.returns-in-Some-clause-took
 returns-in-Some-clause-took g c =
@@ -39,7 +39,7 @@ last_turn g c =
     ends_here g.S.Sink.took g.met.S.Sink.took_both c.args.boot.now c.loop-done.boot c.turn.new.boot c.loop-done._done c.args.steps c.in-Ok-Some.exit c.args.out.now c.loop-done.out c.turn.new.out c.loop-done.invariant.at within c.in-Ok-Some.ensures.loaded (sym c.in-Ok-Some.field-0-is ∙ c.in-Ok-Some.ensures.end) c.in-Ok-Some.ensures.took
 
 pub returns-in-Ok-Some-clause-end : goal.returns-in-Ok-Some-clause-end
-returns-in-Ok-Some-clause-end g c = if_ran _ _ (c.from-in-Ok-Some.ensures ∙ sym (ap answer_of (last_turn g c).end))
+returns-in-Ok-Some-clause-end g c = if_ran _ _ ((last_turn g c).end ∙ sym c.from-in-Ok-Some.ensures)
 
 pub returns-in-Ok-Some-clause-took : goal.returns-in-Ok-Some-clause-took
 returns-in-Ok-Some-clause-took g c = if_ran _ _ (last_turn g c).given
