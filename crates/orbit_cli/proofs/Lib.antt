@@ -1,1 +1,4 @@
-pub mod Numbers
+mod Numbers
+mod Outcomes
+mod Refusals
+mod Reports

@@ -1,15 +1,15 @@
 -- The answer of a run: what is put out, the line of its end, and the status.
-use Rattle.std.specs.Prelude.{ℕ, Bool, true, false, List, [], ◌++◌, Option}
+use Rattle.std.specs.Prelude.{ℕ, Bool, true, false, List, [], ◌++◌, Option, Some, None}
 use Rattle.m68020_step.specs.declared.machine.Sizes.{Sizes}
 use Rattle.image_file.specs.Grammar.{Parts}
-use Rattle.orbit_monitor.specs.declared.end.End.{End}
-use Rattle.orbit_monitor.specs.declared.end.End.TheVariants as run
+use Rattle.orbit_monitor.specs.declared.end.Exit.{Exit}
+use Rattle.orbit_monitor.specs.declared.end.Exit.TheVariants as exit
 use Rattle.orbit_monitor.specs.Run.{Progress}
 use Rattle.orbit_monitor.specs.Observed.{shown_of}
-use Rattle.orbit_monitor.specs.Answering.{Loaded, fresh, run_on, answer_of, last_after}
+use Rattle.orbit_monitor.specs.Answering.{Loaded, fresh, run_on, last_after}
 use Rattle.orbit_cli.specs.declared.status.Status.{Status}
 use Rattle.orbit_cli.specs.declared.status.Status.TheVariants as status
-use Rattle.orbit_cli.specs.Lines.{shown_text, value_line, fault_line, full_line, limit_line, stop_line, write_line}
+use Rattle.orbit_cli.specs.Lines.{shown_text, value_line, fault_line, full_line, limit_line, stop_line}
 
 pub record Answer : Type 0 where
   pub out : List ℕ
@@ -17,41 +17,43 @@ pub record Answer : Type 0 where
   pub status : Status
 
 -- behind output whose last byte is this one: the line of the value, where the run halted
-abbrev pub value_text : List (List ℕ) → Option ℕ → End → List ℕ
-value_text names last (run.Done face) = value_line last (shown_text (shown_of names face))
-value_text names last (run.Fault fault) = []
-value_text names last (run.Full stack asked left) = []
-value_text names last run.Steps = []
-value_text names last (run.Stop why at) = []
-value_text names last run.Sink = []
+abbrev pub value_text : List (List ℕ) → Option ℕ → Option Exit → List ℕ
+value_text names last (Some (exit.Done face)) = value_line last (shown_text (shown_of names face))
+value_text names last (Some (exit.Fault fault)) = []
+value_text names last (Some (exit.Full stack asked left)) = []
+value_text names last (Some (exit.Stop why at)) = []
+value_text names last None = []
 
--- the line of an end, where the run was given so many instructions
-abbrev pub end_line : ℕ → End → List ℕ
-end_line steps (run.Done face) = []
-end_line steps (run.Fault fault) = fault_line fault
-end_line steps (run.Full stack asked left) = full_line stack asked left
-end_line steps run.Steps = limit_line steps
-end_line steps (run.Stop why at) = stop_line why at
-end_line steps run.Sink = write_line
+-- the line of an end, or that so many instructions ran and none of them ended the run
+abbrev pub end_line : ℕ → Option Exit → List ℕ
+end_line steps (Some (exit.Done face)) = []
+end_line steps (Some (exit.Fault fault)) = fault_line fault
+end_line steps (Some (exit.Full stack asked left)) = full_line stack asked left
+end_line steps (Some (exit.Stop why at)) = stop_line why at
+end_line steps None = limit_line steps
 
 abbrev pub full_status : Bool → Status
 full_status true = status.StackFull
 full_status false = status.HeapFull
 
-abbrev pub end_status : End → Status
-end_status (run.Done face) = status.Done
-end_status (run.Fault fault) = status.SourceFault
-end_status (run.Full stack asked left) = full_status stack
-end_status run.Steps = status.StepLimit
-end_status (run.Stop why at) = status.MachineStop
-end_status run.Sink = status.WriteFault
+abbrev pub end_status : Option Exit → Status
+end_status (Some (exit.Done face)) = status.Done
+end_status (Some (exit.Fault fault)) = status.SourceFault
+end_status (Some (exit.Full stack asked left)) = full_status stack
+end_status (Some (exit.Stop why at)) = status.MachineStop
+end_status None = status.StepLimit
+
+-- where the run put this output and ended so, if it ended
+abbrev pub answer_at : Loaded → List ℕ → Option Exit → ℕ → Answer
+answer_at b output end steps = record {
+  out = output ++ value_text b.names (last_after b.last output) end;
+  err = end_line steps end;
+  status = end_status end;
+}
 
 -- of a program that is loaded, from where it is
 abbrev pub answer_on : Loaded → ℕ → Answer
-answer_on b steps =
-    let p = run_on b steps in
-    let e = answer_of p.end in
-    record { out = p.output ++ value_text b.names (last_after b.last p.output) e; err = end_line steps e; status = end_status e }
+answer_on b steps = answer_at b (run_on b steps).output (run_on b steps).end steps
 
 -- of an image
 abbrev pub answer : Parts → Sizes → ℕ → Answer

@@ -13,7 +13,7 @@ use Rattle.orbit_cli.specs.declared.prepare.Refusal.{Refusal}
 use Rattle.orbit_cli.specs.declared.prepare.Refusal.TheVariants as refusal
 use Rattle.orbit_cli.specs.Lines.{unread_line, long_line, memory_line, unbuilt_line, write_line}
 use Rattle.orbit_cli.specs.Answer.{answer_on}
-use Rattle.orbit_cli.specs.Outcome.{Outside, IsFetched, IsOver, HasNoUnit, IsUntouched, IsNotKept, IsOutOfMemory, Says}
+use Rattle.orbit_cli.specs.Outcome.{Outside, IsFetched, IsOver, HasNoUnit, IsUntouched, IsNotKept}
 
 -- an image of the text, and it is loaded
 pub record IsBuilt (text : List ℕ) (sizes : Sizes) (bytes : List ℕ) (loaded : Loaded) : Type 0 where
@@ -72,17 +72,67 @@ IfUnwritten status.MachineStop p q = q
 IfUnwritten status.LongFile p q = q
 IfUnwritten status.Unbuilt p q = q
 
+-- a sink before and after, each with its count of faults
+pub record Change (S : Type 0) : Type 0 where
+  pub old : S
+  pub old_faults : ℕ
+  pub new : S
+  pub new_faults : ℕ
+
+abbrev pub change : {S : Type 0} → S → ℕ → S → ℕ → Change S
+change old old_faults new new_faults = record { old = old; old_faults = old_faults; new = new; new_faults = new_faults }
+
+-- a sink took exactly the line, where no put to it failed
+abbrev pub Notes : {E : Type 0} → (E → List ℕ → E → Type 0) → Change E → List ℕ → Type 0
+Notes said err line = (Rose err.old_faults err.new_faults → ⊥) → said err.old line err.new
+
 -- out, err and the status are the answer of the loaded program
-pub record IsAnswered {S E : Type 0} (took : S → List ℕ → S → Type 0) (said : E → List ℕ → E → Type 0) (loaded : Loaded) (steps : ℕ) (old new : Outside S E) (ended : Status) : Type 0 where
-  pub printed : took old.out (answer_on loaded steps).out new.out
-  pub noted : Says said old new (answer_on loaded steps).err
+pub record IsAnswered {S E : Type 0} (took : S → List ℕ → S → Type 0) (said : E → List ℕ → E → Type 0) (loaded : Loaded) (steps : ℕ) (out : Change S) (err : Change E) (ended : Status) : Type 0 where
+  pub printed : took out.old (answer_on loaded steps).out out.new
+  pub noted : Notes said err (answer_on loaded steps).err
   pub status_is : (answer_on loaded steps).status ≡ ended
 
 -- a put to out failed, behind a front of what was due
-pub record IsCutOff {S E : Type 0} (took : S → List ℕ → S → Type 0) (said : E → List ℕ → E → Type 0) (loaded : Loaded) (steps : ℕ) (old new : Outside S E) : Type 0 where
-  pub rose : Rose old.out_faults new.out_faults
-  pub front : TookFront took old.out (answer_on loaded steps).out new.out
-  pub noted : Says said old new write_line
+pub record IsCutOff {S E : Type 0} (took : S → List ℕ → S → Type 0) (said : E → List ℕ → E → Type 0) (due : List ℕ) (out : Change S) (err : Change E) : Type 0 where
+  pub rose : Rose out.old_faults out.new_faults
+  pub front : TookFront took out.old due out.new
+  pub noted : Notes said err write_line
 
-abbrev pub IsReported : {S E : Type 0} → (S → List ℕ → S → Type 0) → (E → List ℕ → E → Type 0) → Loaded → ℕ → Outside S E → Outside S E → Status → Type 0
-IsReported took said loaded steps old new ended = IfUnwritten ended (IsCutOff took said loaded steps old new) (IsAnswered took said loaded steps old new ended)
+abbrev pub IsReported : {S E : Type 0} → (S → List ℕ → S → Type 0) → (E → List ℕ → E → Type 0) → Loaded → ℕ → Change S → Change E → Status → Type 0
+IsReported took said loaded steps out err ended = IfUnwritten ended (IsCutOff took said (answer_on loaded steps).out out err) (IsAnswered took said loaded steps out err ended)
+
+-- the line of a value was put, or cut off
+pub record IsHalted {S E : Type 0} (took : S → List ℕ → S → Type 0) (line : List ℕ) (out : Change S) (err : Change E) (ended : Status) : Type 0 where
+  pub printed : took out.old line out.new
+  pub silent : err.new ≡ err.old
+  pub status_is : ended ≡ status.Done
+
+abbrev pub Halts : {S E : Type 0} → (S → List ℕ → S → Type 0) → (E → List ℕ → E → Type 0) → List ℕ → Change S → Change E → Status → Type 0
+Halts took said line out err ended = IfUnwritten ended (IsCutOff took said line out err) (IsHalted took line out err ended)
+
+abbrev pub out_of : {S E : Type 0} → Outside S E → Outside S E → Change S
+out_of old new = change old.out old.out_faults new.out new.out_faults
+
+abbrev pub err_of : {S E : Type 0} → Outside S E → Outside S E → Change E
+err_of old new = change old.err old.err_faults new.err new.err_faults
+
+-- the image was not kept
+pub record KeepFails {S E : Type 0} (said : E → List ℕ → E → Type 0) (old new : Outside S E) (ended : Status) : Type 0 where
+  pub unkept : IsNotKept old new
+  pub noted : Notes said (err_of old new) write_line
+  pub status_is : ended ≡ status.WriteFault
+
+-- the folder had no memory to keep it
+pub record KeepLacksMemory {S E : Type 0} (said : E → List ℕ → E → Type 0) (old new : Outside S E) (ended : Status) : Type 0 where
+  pub untouched : IsUntouched old new
+  pub noted : Notes said (err_of old new) memory_line
+  pub status_is : ended ≡ status.Memory
+
+-- it was kept, and the loaded program was run
+pub record KeptAndRun {S E : Type 0} (took : S → List ℕ → S → Type 0) (said : E → List ℕ → E → Type 0) (img bytes : List ℕ) (loaded : Loaded) (steps : ℕ) (old new : Outside S E) (ended : Status) : Type 0 where
+  pub kept : IfBothTold old.files new.files (Puts img bytes)
+  pub reported : IsReported took said loaded steps (out_of old new) (err_of old new) ended
+
+abbrev pub KeptOutcome : {S E : Type 0} → (S → List ℕ → S → Type 0) → (E → List ℕ → E → Type 0) → List ℕ → List ℕ → Loaded → ℕ → Outside S E → Outside S E → Status → Type 0
+KeptOutcome took said img bytes loaded steps old new ended =
+    KeptAndRun took said img bytes loaded steps old new ended ⊎ (KeepFails said old new ended ⊎ KeepLacksMemory said old new ended)

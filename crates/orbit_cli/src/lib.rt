@@ -4,7 +4,10 @@
 
 mod lines;
 mod prepare;
+mod report;
 mod status;
+mod top;
 mod words;
 
 pub use status::Status;
+pub use top::orbit;

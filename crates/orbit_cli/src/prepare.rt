@@ -110,6 +110,5 @@ pub fn prepare<F: Folder>(
     ensures refused { IfErr result (Refuses (F.files folder.old) src.now (Rose (F.fetch_faults folder.old) (F.fetch_faults folder.new))) }
 {
     let text = fetch_text(alloc, src, folder)?;
-    let ready = build(alloc, &text, sizes)?;
-    Ok(ready)
+    build(alloc, &text, sizes)
 }

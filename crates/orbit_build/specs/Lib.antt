@@ -1,3 +1,0 @@
-pub mod Grammar
-pub mod Code
-pub mod Faithful

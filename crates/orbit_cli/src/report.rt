@@ -1,0 +1,109 @@
+//! A run, and what is printed of it.
+
+ghost use Rattle.std.specs.Prelude.{◌≡◌, ◌<◌, [], get_or, OnOk, OnErr, length};
+ghost use Rattle.t_base.specs.declared.faults.Face.{Face};
+ghost use Rattle.t_ports.specs.Causes.{HasCause};
+ghost use Rattle.t_ports.specs.Pieces.{TookFront};
+ghost use Rattle.orbit_monitor.specs.Observed.{shown_of};
+ghost use Rattle.orbit_monitor.specs.Answering.{FaceIsNamed};
+ghost use Rattle.orbit_cli.specs.Lines.{shown_text, value_line, write_line};
+ghost use Rattle.orbit_cli.specs.Answer.{full_status};
+ghost use Rattle.orbit_cli.specs.Parts.{change, Notes, Halts, IsReported};
+
+use crate::lines::{
+    kind_name, put_character_value, put_fault, put_full, put_limit, put_number_value, put_stop,
+    put_value,
+};
+use crate::status::Status;
+use orbit_monitor::{Boot, End, run};
+use t_base::{Face, Name};
+use t_ports::ports::{Failed, Sink};
+
+// Puts the line of a symbol by its name.
+fn put_symbol<S: Sink>(boot: &Boot, name: Name, out: &mut S) -> Result<(), Failed>
+    requires { name.0 < length boot.now.names }
+    ensures ok { OnOk result (S.took out.old (value_line boot.now.last (get_or boot.now.names name.0 [])) out.new) }
+    ensures part { OnErr result (TookFront S.took out.old (value_line boot.now.last (get_or boot.now.names name.0 [])) out.new) }
+    ensures cause { HasCause (S.faults out.old) (S.faults out.new) result }
+{
+    put_value(out, boot.last_byte(), boot.name_of(name))
+}
+
+// Puts the line of a value with this face, behind what the program put.
+fn put_face<S: Sink>(boot: &Boot, face: Face, out: &mut S) -> Result<(), Failed>
+    requires { FaceIsNamed boot.now.names face }
+    ensures ok { OnOk result (S.took out.old (value_line boot.now.last (shown_text (shown_of boot.now.names face))) out.new) }
+    ensures part { OnErr result (TookFront S.took out.old (value_line boot.now.last (shown_text (shown_of boot.now.names face))) out.new) }
+    ensures cause { HasCause (S.faults out.old) (S.faults out.new) result }
+{
+    let last = boot.last_byte();
+    match face {
+        Face::Fix(number) => put_number_value(out, last, number),
+        Face::Char(code) => put_character_value(out, last, code),
+        Face::Nil => put_value(out, last, b"()"),
+        Face::True => put_value(out, last, b"#t"),
+        Face::Symbol(name) => put_symbol(boot, name, out),
+        Face::Kind(kind) => put_value(out, last, kind_name(kind)),
+    }
+}
+
+/// Puts the line that something could not be written.
+pub fn unwritten<E: Sink>(err: &mut E) -> Status
+    ensures status { result ≡ Status.WriteFault }
+    ensures noted { Notes E.took (change err.old (E.faults err.old) err.new (E.faults err.new)) write_line }
+{
+    let _ = err.put(b"cannot write\n");
+    Status::WriteFault
+}
+
+// The program halted with this face.
+fn halt<S: Sink, E: Sink>(boot: &Boot, face: Face, out: &mut S, err: &mut E) -> Status
+    requires { FaceIsNamed boot.now.names face }
+    ensures { Halts S.took E.took (value_line boot.now.last (shown_text (shown_of boot.now.names face))) (change out.old (S.faults out.old) out.new (S.faults out.new)) (change err.old (E.faults err.old) err.new (E.faults err.new)) result }
+{
+    match put_face(boot, face, out) {
+        Ok(()) => Status::Done,
+        Err(_) => unwritten(err),
+    }
+}
+
+fn status_of_full(stack: bool) -> Status
+    ensures { result ≡ full_status stack }
+{
+    if stack {
+        Status::StackFull
+    } else {
+        Status::HeapFull
+    }
+}
+
+/// Runs a loaded program for at most so many instructions, and reports how it ended.
+pub fn finish<S: Sink, E: Sink>(
+    boot: &mut Boot,
+    steps: u64,
+    out: &mut S,
+    err: &mut E,
+) -> Status
+    ensures { IsReported S.took E.took boot.old steps (change out.old (S.faults out.old) out.new (S.faults out.new)) (change err.old (E.faults err.old) err.new (E.faults err.new)) result }
+{
+    match run(boot, steps, out) {
+        End::Sink => unwritten(err),
+        End::Done(face) => halt(boot, face, out, err),
+        End::Fault(fault) => {
+            let _ = put_fault(err, fault);
+            Status::SourceFault
+        }
+        End::Full { stack, asked, left } => {
+            let _ = put_full(err, stack, asked, left);
+            status_of_full(stack)
+        }
+        End::Steps => {
+            let _ = put_limit(err, steps);
+            Status::StepLimit
+        }
+        End::Stop { why, at } => {
+            let _ = put_stop(err, why, at);
+            Status::MachineStop
+        }
+    }
+}

@@ -1,4 +1,0 @@
-pub mod Form
-pub mod Evaluation
-pub mod Meaning
-pub mod Laws
