@@ -1,0 +1,14 @@
+//! Images as bytes: what an image is, its one spelling, and the first field that fails where bytes spell none.
+//! `write_image` gives the spelling; `read_image` gives the image back, or that field with its place.
+#![tactic(auto)]
+
+mod fault;
+mod image;
+mod names;
+mod reading;
+mod writing;
+
+pub use fault::{ImageFault, ImageKind};
+pub use image::Image;
+pub use reading::read_image;
+pub use writing::write_image;

@@ -1,0 +1,98 @@
+-- A program in the monitor, and what a call that runs it answers.
+use Rattle.std.specs.Prelude.{◌≡◌, ℕ, ◌+◌, ◌<◌, List, [], ◌∷◌, ◌++◌, length, Option, Some, None}
+use Rattle.t_base.specs.declared.faults.Face.{Face}
+use Rattle.t_base.specs.declared.faults.Face.TheVariants as face
+use Rattle.image_file.specs.Grammar.{Parts}
+use Rattle.m68020_step.specs.declared.machine.Sizes.{Sizes}
+use Rattle.m68020_step.specs.Step.{State}
+use Rattle.orbit_monitor.specs.declared.end.Exit.{Exit}
+use Rattle.orbit_monitor.specs.declared.end.Exit.TheVariants as exit
+use Rattle.orbit_monitor.specs.declared.end.End.{End}
+use Rattle.orbit_monitor.specs.declared.end.End.TheVariants as answer
+use Rattle.orbit_monitor.specs.Run.{Progress, act, run_from, booted}
+
+-- the names of the image, the machine, how the program ended, if it has, and the last byte that a service put
+pub record Loaded : Type 0 where
+  pub names : List (List ℕ)
+  pub state : State
+  pub end : Option Exit
+  pub last : Option ℕ
+
+-- at boot
+abbrev pub fresh : Parts → Sizes → Loaded
+fresh image sizes = record { names = image.names; state = booted image sizes; end = None; last = None }
+
+-- The run of a loaded program, from where it is. That of a fresh one is the run of its image.
+abbrev pub run_on : Loaded → ℕ → Progress
+run_on b m = run_from b.names (record { state = b.state; output = []; end = b.end; instructions = 0 }) m
+
+-- the last byte, where these are put after it
+abbrev pub last_after : Option ℕ → List ℕ → Option ℕ
+last_after last [] = last
+last_after last (byte ∷ rest) = last_after (Some byte) rest
+
+-- a loaded program after some progress
+abbrev pub after : Loaded → Progress → Loaded
+after b p = record { names = b.names; state = p.state; end = p.end; last = last_after b.last p.output }
+
+-- the answer to how a program ended, or that it has not
+abbrev pub answer_of : Option Exit → End
+answer_of None = answer.Steps
+answer_of (Some (exit.Done face)) = answer.Done face
+answer_of (Some (exit.Fault fault)) = answer.Fault fault
+answer_of (Some (exit.Full stack asked left)) = answer.Full stack asked left
+answer_of (Some (exit.Stop why at)) = answer.Stop why at
+
+-- of an answer that blames the sink, a fact
+abbrev pub IfSink : End → Type 0 → Type 0
+IfSink answer.Sink p = p
+IfSink answer.Steps p = Unit {0}
+IfSink (answer.Done face) p = Unit {0}
+IfSink (answer.Fault fault) p = Unit {0}
+IfSink (answer.Full stack asked left) p = Unit {0}
+IfSink (answer.Stop why at) p = Unit {0}
+
+-- of every other answer, a fact
+abbrev pub IfRan : End → Type 0 → Type 0
+IfRan answer.Sink p = Unit {0}
+IfRan answer.Steps p = p
+IfRan (answer.Done face) p = p
+IfRan (answer.Fault fault) p = p
+IfRan (answer.Full stack asked left) p = p
+IfRan (answer.Stop why at) p = p
+
+-- a symbol's name is one of these
+abbrev pub FaceIsNamed : List (List ℕ) → Face → Type 0
+FaceIsNamed names (face.Symbol name) = name.0 < length names
+FaceIsNamed names (face.Fix number) = Unit {0}
+FaceIsNamed names (face.Char code) = Unit {0}
+FaceIsNamed names face.Nil = Unit {0}
+FaceIsNamed names face.True = Unit {0}
+FaceIsNamed names (face.Kind kind) = Unit {0}
+
+abbrev pub IsNamed : List (List ℕ) → Exit → Type 0
+IsNamed names (exit.Done face) = FaceIsNamed names face
+IsNamed names (exit.Fault fault) = Unit {0}
+IsNamed names (exit.Full stack asked left) = Unit {0}
+IsNamed names (exit.Stop why at) = Unit {0}
+
+abbrev pub AnswerIsNamed : List (List ℕ) → End → Type 0
+AnswerIsNamed names (answer.Done face) = FaceIsNamed names face
+AnswerIsNamed names (answer.Fault fault) = Unit {0}
+AnswerIsNamed names (answer.Full stack asked left) = Unit {0}
+AnswerIsNamed names answer.Steps = Unit {0}
+AnswerIsNamed names (answer.Stop why at) = Unit {0}
+AnswerIsNamed names answer.Sink = Unit {0}
+
+-- A put failed: so many instructions ran and put all that was due, and then a service had a front of its bytes taken. The
+-- program stands behind that service, whose bytes do not count as put.
+pub record FailsAtPut {S : Type 0} (took : S → List ℕ → S → Type 0) (b : Loaded) (steps : ℕ) (c : Loaded) (old new : S) : Type 0 where
+  pub before : ℕ
+  pub within : before < steps
+  pub going : (run_on b before).end ≡ None
+  pub front : List ℕ
+  pub rest : List ℕ
+  pub due : (act b.names (run_on b before).state).output ≡ front ++ rest
+  pub given : took old ((run_on b before).output ++ front) new
+  pub goes_on : (run_on b (before + 1)).end ≡ None
+  pub loaded : c ≡ record (after b (run_on b (before + 1))) { last = last_after b.last (run_on b before).output }

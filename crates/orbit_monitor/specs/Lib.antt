@@ -1,0 +1,5 @@
+pub mod Answering
+pub mod Faces
+pub mod Observed
+pub mod Run
+pub mod Services

@@ -1,0 +1,7 @@
+//! Loads an image into the machine, runs it, and does the services that it asks for. Output goes to a sink as each service is
+//! met, and a run can go on where an earlier one left off.
+#![tactic(auto)]
+
+mod end;
+
+pub use end::{End, Exit};
