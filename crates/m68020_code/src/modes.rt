@@ -57,4 +57,3 @@ pub fn changes(e: &Ea) -> bool
 {
     !matches!(e, Ea::Imm(_))
 }
-

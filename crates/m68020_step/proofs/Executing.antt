@@ -7,7 +7,7 @@ use Rattle.std.proofs.Math.Seq.{drop-append_seam}
 use Rattle.m68020_code.specs.declared.instr.Instr.{Instr}
 use Rattle.m68020_code.specs.Table.{is_row, spelling}
 use Rattle.m68020_code.specs.Reading.{decode_of}
-use Rattle.m68020_code.proofs.Laws.{decode_of_spelling}
+use Rattle.m68020_code.proofs.Spellings.{decode_of_spelling}
 use Rattle.m68020_code.proofs.Lengths.{spelling_words}
 use Rattle.m68020_step.specs.declared.storage.TheConstants.{CODE_START}
 use Rattle.m68020_step.specs.Word.{sum_of}
