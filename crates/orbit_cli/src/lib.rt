@@ -1,0 +1,5 @@
+//! The command line: the words that are a command, what it does over a folder and two sinks, and what is printed of it. The
+//! contract of `orbit` is the promise of the whole program.
+#![tactic(auto)]
+
+mod words;
