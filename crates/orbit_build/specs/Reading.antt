@@ -2,7 +2,7 @@
 use Rattle.std.specs.Prelude.{ℕ, zero, suc, ◌+◌, ◌-◌, ◌*◌, ◌^◌, ◌<◌, ◌≤◌, ◌≡◌, ◌++◌, ℤ, pos, neg_ℤ, Bool, true, false, ◌==◌, ◌||◌, ◌&&◌, nat_lt, nat_le, if◌then◌else◌, List, [], ◌∷◌, length, Option, Some, None}
 use Rattle.std.specs.Option.{option_map}
 use Rattle.t_meaning.specs.Form.{Form, Literal, Sum}
-use Rattle.orbit_build.specs.Code.{form_code}
+use Rattle.orbit_build.specs.Code.{form_code, forms_code, unit_code}
 use Rattle.orbit_build.specs.Grammar.{is_blank, is_digit, most_open, most_nodes}
 
 abbrev pub skipped : List ℕ → List ℕ
@@ -107,8 +107,11 @@ forms_within n [] = Some []
 forms_within zero (b ∷ bs) = None
 forms_within (suc n) (b ∷ bs) = small_form_at (b ∷ bs) >>= λ r. option_map (λ fs. r.form ∷ fs) (forms_within n (skipped r.rest))
 
+abbrev pub forms_at : List ℕ → Option (List Form)
+forms_at text = forms_within (length text) text
+
 abbrev pub forms_of : List ℕ → Option (List Form)
-forms_of text = forms_within (length text) (skipped text)
+forms_of text = forms_at (skipped text)
 
 -- ---- what the code did
 
@@ -119,3 +122,15 @@ pub record ReadsAs (read_ : Option Read) (depth nodes : ℕ) (rest old new : Lis
   pub nodes_are : nodes ≡ it.nodes
   pub rest_is : rest ≡ it.rest
   pub code : new ≡ old ++ form_code depth it.form
+
+-- All forms of a text were read, and their code stands behind what was there.
+pub record BuiltAs (forms_ : Option (List Form)) (old new : List ℕ) : Type 0 where
+  pub unit : List Form
+  pub found : forms_ ≡ Some unit
+  pub code : new ≡ old ++ forms_code unit
+
+-- All forms of a text were read, and this is the code of the unit.
+pub record UnitBuilt (forms_ : Option (List Form)) (code : List ℕ) : Type 0 where
+  pub unit : List Form
+  pub found : forms_ ≡ Some unit
+  pub code_is : code ≡ unit_code unit

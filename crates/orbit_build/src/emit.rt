@@ -5,8 +5,7 @@ ghost use Rattle.m68020_code.specs.Table.{is_row, spelling};
 ghost use Rattle.t_meaning.specs.Form.{is_fixnum};
 ghost use Rattle.orbit_build.specs.Code.{word, slot, load, save, add_saved, bytes_of};
 
-use m68020_code::encode::encode;
-use m68020_code::instr::{Cond, Ea, Instr, Width};
+use m68020_code::{encode, Cond, Ea, Instr, Width};
 use t_base::Memory;
 
 const STATICS_START: u32 = 0x2000_0000;

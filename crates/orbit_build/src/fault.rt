@@ -1,5 +1,6 @@
 //! Why no image was built.
 
+use std::alloc::AllocError;
 use t_base::Memory;
 use thiserror::Error;
 
@@ -20,6 +21,17 @@ impl From<Memory> for BuildFault {
     ghost from_gives = { λ _ e. e ≡ faults.Memory };
 
     fn from(_: Memory) -> Self {
+        BuildFault::Memory
+    }
+}
+
+impl From<AllocError> for BuildFault {
+    ghost use Rattle.std.specs.Prelude.{◌≡◌};
+    ghost use Rattle.orbit_build.specs.declared.fault.BuildFault.TheVariants as faults;
+
+    ghost from_gives = { λ _ e. e ≡ faults.Memory };
+
+    fn from(_: AllocError) -> Self {
         BuildFault::Memory
     }
 }

@@ -11,7 +11,7 @@ use crate::literal::{read_close, read_literal, read_open, read_plus, skip};
 /// A literal.
 fn build_literal<'a>(text: &'a [u8], depth: u32, out: &mut Vec<u8>) -> Result<(u32, &'a [u8]), BuildFault>
     ensures read { IfOk result (λ s. ReadsAs (literal_at text.now) depth s.0 s.1.now out.old.items out.new.items) }
-    ensures within { IfOk result (λ s. s.0 + length s.1.now ≤ length text.now) }
+    ensures within { IfOk result (λ s. (0 < s.0) × (s.0 + length s.1.now ≤ length text.now)) }
     ensures unbuilt { IsErrOf result BuildFault.Unbuilt → literal_at text.now ≡ None }
 {
     let Some((value, rest)) = read_literal(text) else {
@@ -27,7 +27,7 @@ fn build_sum<'a>(text: &'a [u8], room: u32, depth: u32, out: &mut Vec<u8>) -> Re
     requires small { length text.now ≤ 2 ^ 20 }
     requires slots { depth + room < 400 }
     ensures read { IfOk result (λ s. ReadsAs (sum_at (form_at room) text.now) depth s.0 s.1.now out.old.items out.new.items) }
-    ensures within { IfOk result (λ s. s.0 + length s.1.now ≤ length text.now + 1) }
+    ensures within { IfOk result (λ s. (0 < s.0) × (s.0 + length s.1.now ≤ length text.now + 1)) }
     ensures unbuilt { IsErrOf result BuildFault.Unbuilt → sum_at (form_at room) text.now ≡ None }
 {
     let Some(first) = read_plus(skip(text)) else {
@@ -50,7 +50,7 @@ pub fn build_form<'a>(text: &'a [u8], room: u32, depth: u32, out: &mut Vec<u8>) 
     requires small { length text.now ≤ 2 ^ 20 }
     requires slots { depth + room ≤ 400 }
     ensures read { IfOk result (λ s. ReadsAs (form_at room text.now) depth s.0 s.1.now out.old.items out.new.items) }
-    ensures within { IfOk result (λ s. s.0 + length s.1.now ≤ length text.now) }
+    ensures within { IfOk result (λ s. (0 < s.0) × (s.0 + length s.1.now ≤ length text.now)) }
     ensures unbuilt { IsErrOf result BuildFault.Unbuilt → form_at room text.now ≡ None }
 {
     let Some(inner) = read_open(text) else {

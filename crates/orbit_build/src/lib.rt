@@ -2,11 +2,12 @@
 //! is read from the front, and its code is put out as it is read.
 #![tactic(auto)]
 
-
+mod build;
 mod emit;
 mod fault;
 mod form;
 mod literal;
+mod text;
 
-
+pub use build::compile;
 pub use fault::BuildFault;
