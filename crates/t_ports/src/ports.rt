@@ -84,22 +84,3 @@ impl Sink for NullSink {
         Ok(())
     }
 }
-
-/// Puts two pieces; a test of the laws.
-pub fn put_both<S: Sink>(sink: &mut S, a: &[u8], b: &[u8]) -> Result<(), Failed>
-    ensures ok { OnOk result (S.took sink.old (a.now ++ b.now) sink.new) }
-    ensures cause { HasCause (S.faults sink.old) (S.faults sink.new) result }
-    ensures part { OnErr result ((front rest : List ℕ) × (a.now ++ b.now ≡ front ++ rest) × S.took sink.old front sink.new) }
-{
-    sink.put(a)?;
-    sink.put(b)
-}
-
-/// Puts three pieces.
-pub fn put_three<S: Sink>(sink: &mut S, a: &[u8], b: &[u8], c: &[u8]) -> Result<(), Failed>
-    ensures ok { OnOk result (S.took sink.old (a.now ++ b.now ++ c.now) sink.new) }
-    ensures cause { HasCause (S.faults sink.old) (S.faults sink.new) result }
-{
-    put_both(sink, a, b)?;
-    sink.put(c)
-}

@@ -1,0 +1,7 @@
+pub mod Answer
+pub mod Command
+pub mod Lines
+pub mod Outcome
+pub mod Parts
+pub mod Statuses
+pub mod Words

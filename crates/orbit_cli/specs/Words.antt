@@ -1,0 +1,48 @@
+-- The words of a command line, and the command that they are.
+use Rattle.std.specs.Prelude.{ℕ, ◌+◌, ◌-◌, ◌*◌, ◌%◌, ◌^◌, Bool, not, ◌==◌, ◌&&◌, List, [], ◌∷◌, Option, Some, None, if◌then◌else◌, nat_le, length, codes, option_and_then}
+use Rattle.std.specs.List.{list_all}
+use Rattle.std.specs.Str.{bytes_eq}
+use Rattle.std.specs.Char.{is_ascii_digit}
+
+-- the number whose digits are those of v and then these, the highest first
+abbrev pub digits_value : ℕ → List ℕ → ℕ
+digits_value v [] = v
+digits_value v (b ∷ bs) = digits_value (v * 10 + (b - 48)) bs
+
+-- one or more digits
+abbrev pub is_numeral : List ℕ → Bool
+is_numeral word = not (length word == 0) && list_all is_ascii_digit word
+
+abbrev pub up_to : ℕ → ℕ → Option ℕ
+up_to limit n = if nat_le n limit then Some n else None
+
+-- a number up to the limit; leading zeros are allowed
+abbrev pub number : ℕ → List ℕ → Option ℕ
+number limit word = if is_numeral word then up_to limit (digits_value 0 word) else None
+
+abbrev pub size_from : ℕ → Option ℕ
+size_from n = if nat_le 64 n && (n % 8 == 0) then Some n else None
+
+-- the bytes of a heap or a stack: a multiple of 8 from 64 to 2^28
+abbrev pub size : List ℕ → Option ℕ
+size word = option_and_then size_from (number (2 ^ 28) word)
+
+-- a number of instructions, up to 2^40
+abbrev pub steps : List ℕ → Option ℕ
+steps word = number (2 ^ 40) word
+
+-- a text to compile, a name for its image, and with how many bytes of heap and stack it is run for at most so many instructions
+pub record Go : Type 0 where
+  pub src : List ℕ
+  pub img : List ℕ
+  pub heap : ℕ
+  pub stack : ℕ
+  pub steps : ℕ
+
+-- the command that the words are: a row of the table of commands
+abbrev pub command_of : List (List ℕ) → Option Go
+command_of (name ∷ src ∷ img ∷ heap ∷ stack ∷ most ∷ []) =
+    if bytes_eq name (codes "go") then
+    option_and_then (λ h. option_and_then (λ s. option_and_then (λ n. Some (record { src = src; img = img; heap = h; stack = s; steps = n })) (steps most)) (size stack)) (size heap)
+    else None
+command_of words = None

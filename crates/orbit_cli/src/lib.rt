@@ -1,0 +1,10 @@
+//! The command line: the words that are a command, what it does over a folder and two sinks, and what is printed of it. The
+//! contract of `orbit` is the promise of the whole program.
+#![tactic(auto)]
+
+mod lines;
+mod prepare;
+mod status;
+mod words;
+
+pub use status::Status;

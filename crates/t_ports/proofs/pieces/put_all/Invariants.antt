@@ -1,0 +1,10 @@
+use Rattle.std.proofs.Common.{◌≡◌, ◌≤◌, ℕ, List, ◌++◌, length, take}
+use Rattle.t_ports.specs.Pieces.{text_of}
+use Rattle.t_ports.proofs.pieces.put_all.Given as goal
+
+-- the pieces so far were taken
+abbrev pub invariant-pieces : goal.invariant-pieces
+invariant-pieces g l = record {
+  taken : g.S.Sink.took l.initial.sink (text_of (take l.piece-index l.pieces)) l.sink;
+  later : g.S.Sink.faults l.initial.sink ≤ g.S.Sink.faults l.sink;
+}
