@@ -1,2 +1,7 @@
-pub mod Words
+pub mod Answer
 pub mod Command
+pub mod Lines
+pub mod Outcome
+pub mod Parts
+pub mod Statuses
+pub mod Words

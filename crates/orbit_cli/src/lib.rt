@@ -2,4 +2,9 @@
 //! contract of `orbit` is the promise of the whole program.
 #![tactic(auto)]
 
+mod lines;
+mod prepare;
+mod status;
 mod words;
+
+pub use status::Status;

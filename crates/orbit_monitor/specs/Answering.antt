@@ -35,13 +35,14 @@ last_after last (byte ∷ rest) = last_after (Some byte) rest
 abbrev pub after : Loaded → Progress → Loaded
 after b p = record { names = b.names; state = p.state; end = p.end; last = last_after b.last p.output }
 
--- the answer to how a program ended, or that it has not
-abbrev pub answer_of : Option Exit → End
-answer_of None = answer.Steps
-answer_of (Some (exit.Done face)) = answer.Done face
-answer_of (Some (exit.Fault fault)) = answer.Fault fault
-answer_of (Some (exit.Full stack asked left)) = answer.Full stack asked left
-answer_of (Some (exit.Stop why at)) = answer.Stop why at
+-- how a program ended by an answer, if it has
+abbrev pub exit_of : End → Option Exit
+exit_of (answer.Done face) = Some (exit.Done face)
+exit_of (answer.Fault fault) = Some (exit.Fault fault)
+exit_of (answer.Full stack asked left) = Some (exit.Full stack asked left)
+exit_of (answer.Stop why at) = Some (exit.Stop why at)
+exit_of answer.Steps = None
+exit_of answer.Sink = None
 
 -- of an answer that blames the sink, a fact
 abbrev pub IfSink : End → Type 0 → Type 0
@@ -75,6 +76,10 @@ IsNamed names (exit.Done face) = FaceIsNamed names face
 IsNamed names (exit.Fault fault) = Unit {0}
 IsNamed names (exit.Full stack asked left) = Unit {0}
 IsNamed names (exit.Stop why at) = Unit {0}
+
+abbrev pub EndIsNamed : List (List ℕ) → Option Exit → Type 0
+EndIsNamed names (Some how) = IsNamed names how
+EndIsNamed names None = Unit {0}
 
 abbrev pub AnswerIsNamed : List (List ℕ) → End → Type 0
 AnswerIsNamed names (answer.Done face) = FaceIsNamed names face

@@ -3,3 +3,4 @@ pub mod Faces
 pub mod Observed
 pub mod Run
 pub mod Services
+pub mod Turn

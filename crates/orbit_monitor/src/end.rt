@@ -1,5 +1,7 @@
 //! How a program ends, and what a call that runs it answers.
 
+ghost use Rattle.std.specs.Prelude.{◌≡◌};
+
 use m68020_step::Why;
 use t_base::{Face, Fault};
 
@@ -31,4 +33,20 @@ pub enum End {
     Stop { why: Why, at: u32 },
     /// A put failed.
     Sink,
+}
+
+impl From<Exit> for End {
+    ghost use Rattle.std.specs.Prelude.{◌≡◌, Some};
+    ghost use Rattle.orbit_monitor.specs.Answering.{exit_of};
+
+    ghost from_gives = { λ exit answer. exit_of answer ≡ Some exit };
+
+    fn from(exit: Exit) -> End {
+        match exit {
+            Exit::Done(face) => End::Done(face),
+            Exit::Fault(fault) => End::Fault(fault),
+            Exit::Full { stack, asked, left } => End::Full { stack, asked, left },
+            Exit::Stop { why, at } => End::Stop { why, at },
+        }
+    }
 }

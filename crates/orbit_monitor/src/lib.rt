@@ -3,5 +3,11 @@
 #![tactic(auto)]
 
 mod end;
+mod faces;
+mod load;
+mod monitor;
+mod services;
 
 pub use end::{End, Exit};
+pub use load::boot;
+pub use monitor::{Boot, run};

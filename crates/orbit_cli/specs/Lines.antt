@@ -1,0 +1,131 @@
+-- What is printed: values, and a line for each way in which a command or a run ends.
+use Rattle.std.specs.Prelude.{ℕ, ℤ, ◌+◌, ◌/◌, ◌%◌, ◌^◌, Bool, true, false, ◌==◌, ◌&&◌, List, [], ◌∷◌, ◌++◌, Option, Some, None, if◌then◌else◌, nat_lt, nat_le, codes}
+use Rattle.std.specs.Char.{is_ascii_graphic}
+use Rattle.std.specs.Fmt.{decimal, signed_decimal}
+use Rattle.t_base.specs.declared.faults.Fault.{Fault}
+use Rattle.t_base.specs.declared.faults.Fault.TheVariants.{NotProcedure, WrongCount, NotFixnum, NotPair, NotVector, IndexRange, FixnumOverflow, DivideByZero, Unbound, DeadEscape, NotHandled, NotChar, NotString, CharRange, User, NotSymbol}
+use Rattle.program_runs.specs.Runs.{Shown, Fixnum, Character, EmptyList, Truth, Symbol, Kind}
+use Rattle.m68020_step.specs.declared.registers.Why.{Why}
+use Rattle.m68020_step.specs.declared.registers.Why.TheVariants.{Illegal, BadAddress, OddAddress, ZeroDivide, BadService}
+
+-- a character without a name: as its byte, or by its number in three digits
+abbrev pub unnamed_text : ℕ → List ℕ
+unnamed_text c =
+    if is_ascii_graphic c then 35 ∷ 92 ∷ c ∷ []
+    else 35 ∷ 92 ∷ (48 + c / 100) ∷ (48 + c / 10 % 10) ∷ (48 + c % 10) ∷ []
+
+abbrev pub character_text : ℕ → List ℕ
+character_text c =
+    if c == 32 then codes "#\\space"
+    else if c == 10 then codes "#\\newline"
+    else if c == 9 then codes "#\\tab"
+    else unnamed_text c
+
+-- the kinds of values that have no text of their own
+abbrev pub kind_text : ℕ → List ℕ
+kind_text kind =
+    if kind == 1 then codes "{Pair}"
+    else if kind == 2 then codes "{Vector}"
+    else if kind == 3 then codes "{String}"
+    else if kind == 4 then codes "{Procedure}"
+    else if kind == 5 then codes "{Object}"
+    else codes "{Operation}"
+
+-- how a value is printed
+abbrev pub shown_text : Shown → List ℕ
+shown_text (Fixnum number) = signed_decimal number
+shown_text (Character code) = character_text code
+shown_text EmptyList = codes "()"
+shown_text Truth = codes "#t"
+shown_text (Symbol text) = text
+shown_text (Kind kind) = kind_text kind
+
+-- what ends the last line of output whose last byte is this one
+abbrev pub line_end : Option ℕ → List ℕ
+line_end None = []
+line_end (Some byte) = if byte == 10 then [] else codes "\n"
+
+-- the line of a value that is printed so, behind that output
+abbrev pub value_line : Option ℕ → List ℕ → List ℕ
+value_line last text = line_end last ++ (codes "value " ++ (text ++ codes "\n"))
+
+-- a fault's number and name
+abbrev pub fault_words : Fault → List ℕ
+fault_words NotProcedure = codes "1 NotProcedure"
+fault_words WrongCount = codes "2 WrongCount"
+fault_words NotFixnum = codes "3 NotFixnum"
+fault_words NotPair = codes "4 NotPair"
+fault_words NotVector = codes "5 NotVector"
+fault_words IndexRange = codes "6 IndexRange"
+fault_words FixnumOverflow = codes "7 FixnumOverflow"
+fault_words DivideByZero = codes "8 DivideByZero"
+fault_words Unbound = codes "9 Unbound"
+fault_words DeadEscape = codes "10 DeadEscape"
+fault_words NotHandled = codes "11 NotHandled"
+fault_words NotChar = codes "12 NotChar"
+fault_words NotString = codes "13 NotString"
+fault_words CharRange = codes "14 CharRange"
+fault_words (User number) = codes "15 User"
+fault_words NotSymbol = codes "16 NotSymbol"
+
+-- the number that an error of the program gives
+abbrev pub operand_of : Fault → Option ℤ
+operand_of (User number) = Some number
+operand_of _ = None
+
+abbrev pub raised_line : List ℕ → Option ℤ → List ℕ
+raised_line words None = codes "fault " ++ (words ++ codes "\n")
+raised_line words (Some number) = codes "fault " ++ (words ++ (codes " " ++ (signed_decimal number ++ codes "\n")))
+
+abbrev pub fault_line : Fault → List ℕ
+fault_line fault = raised_line (fault_words fault) (operand_of fault)
+
+abbrev pub region_name : Bool → List ℕ
+region_name true = codes "stack"
+region_name false = codes "heap"
+
+-- bytes asked for and bytes left
+abbrev pub full_line : Bool → ℕ → ℕ → List ℕ
+full_line stack asked left = region_name stack ++ (codes " full: asked " ++ (decimal asked ++ (codes " left " ++ (decimal left ++ codes "\n"))))
+
+abbrev pub limit_line : ℕ → List ℕ
+limit_line steps = codes "step limit: " ++ (decimal steps ++ codes "\n")
+
+abbrev pub stop_name : Why → List ℕ
+stop_name Illegal = codes "Illegal"
+stop_name BadAddress = codes "BadAddress"
+stop_name OddAddress = codes "OddAddress"
+stop_name ZeroDivide = codes "ZeroDivide"
+stop_name BadService = codes "BadService"
+
+-- a digit of base 16, in upper case
+abbrev pub hex_digit : ℕ → ℕ
+hex_digit d = if nat_lt d 10 then 48 + d else 55 + d
+
+-- the eight digits of an address
+unfoldable pub hex_address : ℕ → List ℕ
+hex_address n =
+    hex_digit (n / 2 ^ 28 % 16) ∷ hex_digit (n / 2 ^ 24 % 16) ∷ hex_digit (n / 2 ^ 20 % 16) ∷ hex_digit (n / 2 ^ 16 % 16)
+    ∷ hex_digit (n / 2 ^ 12 % 16) ∷ hex_digit (n / 2 ^ 8 % 16) ∷ hex_digit (n / 2 ^ 4 % 16) ∷ hex_digit (n % 16) ∷ []
+
+abbrev pub stop_line : Why → ℕ → List ℕ
+stop_line why at = codes "machine stop " ++ (stop_name why ++ (codes " at " ++ (hex_address at ++ codes "\n")))
+
+abbrev pub usage_line : List ℕ
+usage_line = codes "usage: orbit compile SRC IMG | run IMG HEAP STACK STEPS | go SRC IMG HEAP STACK STEPS | check SRC | list IMG | trial N STEPS\n"
+
+-- of a file that could not be read, and of one that is too long
+abbrev pub unread_line : List ℕ → List ℕ
+unread_line name = codes "cannot read: " ++ (name ++ codes "\n")
+
+abbrev pub long_line : List ℕ → List ℕ
+long_line name = codes "too long: " ++ (name ++ codes "\n")
+
+abbrev pub write_line : List ℕ
+write_line = codes "cannot write\n"
+
+abbrev pub memory_line : List ℕ
+memory_line = codes "out of memory\n"
+
+abbrev pub unbuilt_line : List ℕ
+unbuilt_line = codes "not built yet\n"

@@ -1,0 +1,238 @@
+//! The lines that are printed, each by a function of its own.
+
+ghost use Rattle.std.specs.Prelude.{◌≡◌, ◌<◌, OnOk, OnErr};
+ghost use Rattle.std.specs.Fmt.{signed_decimal};
+ghost use Rattle.t_ports.specs.Causes.{HasCause};
+ghost use Rattle.t_ports.specs.Pieces.{TookFront};
+ghost use Rattle.orbit_cli.specs.Lines.{unnamed_text, character_text, kind_text, line_end, value_line, fault_words, operand_of, fault_line, region_name, full_line, limit_line, stop_name, hex_digit, hex_address, stop_line, unread_line, long_line};
+
+use itoa::Buffer;
+use m68020_step::Why;
+use t_base::Fault;
+use t_ports::pieces::put_all;
+use t_ports::ports::{Failed, Sink};
+
+// What ends the last line of output whose last byte is this one.
+fn end_of_line<'a>(last: Option<u8>) -> &'a [u8]
+    ensures { result.now ≡ line_end last }
+{
+    match last {
+        None => b"",
+        Some(byte) => {
+            if byte == b'\n' {
+                b""
+            } else {
+                b"\n"
+            }
+        }
+    }
+}
+
+/// Puts the line of a value that is printed as the text, behind output whose last byte is `last`.
+pub fn put_value<S: Sink>(sink: &mut S, last: Option<u8>, text: &[u8]) -> Result<(), Failed>
+    ensures ok { OnOk result (S.took sink.old (value_line last text.now) sink.new) }
+    ensures part { OnErr result (TookFront S.took sink.old (value_line last text.now) sink.new) }
+    ensures cause { HasCause (S.faults sink.old) (S.faults sink.new) result }
+{
+    put_all(sink, &[end_of_line(last), b"value ", text, b"\n"])
+}
+
+/// The same of a number.
+pub fn put_number_value<S: Sink>(
+    sink: &mut S,
+    last: Option<u8>,
+    number: i32,
+) -> Result<(), Failed>
+    ensures ok { OnOk result (S.took sink.old (value_line last (signed_decimal number)) sink.new) }
+    ensures part { OnErr result (TookFront S.took sink.old (value_line last (signed_decimal number)) sink.new) }
+    ensures cause { HasCause (S.faults sink.old) (S.faults sink.new) result }
+{
+    let mut buffer = Buffer::new();
+    put_value(sink, last, buffer.format(number).as_bytes())
+}
+
+// The same of a character that has no name.
+fn put_unnamed_value<S: Sink>(sink: &mut S, last: Option<u8>, code: u8) -> Result<(), Failed>
+    ensures ok { OnOk result (S.took sink.old (value_line last (unnamed_text code)) sink.new) }
+    ensures part { OnErr result (TookFront S.took sink.old (value_line last (unnamed_text code)) sink.new) }
+    ensures cause { HasCause (S.faults sink.old) (S.faults sink.new) result }
+{
+    if code.is_ascii_graphic() {
+        return put_value(sink, last, &[b'#', b'\\', code]);
+    }
+    let hundreds = b'0' + code / 100;
+    let tens = b'0' + code / 10 % 10;
+    let ones = b'0' + code % 10;
+    put_value(sink, last, &[b'#', b'\\', hundreds, tens, ones])
+}
+
+/// The same of a character.
+pub fn put_character_value<S: Sink>(
+    sink: &mut S,
+    last: Option<u8>,
+    code: u8,
+) -> Result<(), Failed>
+    ensures ok { OnOk result (S.took sink.old (value_line last (character_text code)) sink.new) }
+    ensures part { OnErr result (TookFront S.took sink.old (value_line last (character_text code)) sink.new) }
+    ensures cause { HasCause (S.faults sink.old) (S.faults sink.new) result }
+{
+    match code {
+        b' ' => put_value(sink, last, b"#\\space"),
+        b'\n' => put_value(sink, last, b"#\\newline"),
+        b'\t' => put_value(sink, last, b"#\\tab"),
+        _ => put_unnamed_value(sink, last, code),
+    }
+}
+
+/// How a value of the kind is printed.
+pub fn kind_name(kind: u8) -> &'static [u8]
+    ensures { result.now ≡ kind_text kind }
+{
+    match kind {
+        1 => b"{Pair}",
+        2 => b"{Vector}",
+        3 => b"{String}",
+        4 => b"{Procedure}",
+        5 => b"{Object}",
+        _ => b"{Operation}",
+    }
+}
+
+// A fault's number and name, and the number that an error of the program gives.
+fn words_of(fault: Fault) -> (&'static [u8], Option<i32>)
+    ensures words { result.0.now ≡ fault_words fault }
+    ensures operand { result.1 ≡ operand_of fault }
+{
+    match fault {
+        Fault::NotProcedure => (b"1 NotProcedure", None),
+        Fault::WrongCount => (b"2 WrongCount", None),
+        Fault::NotFixnum => (b"3 NotFixnum", None),
+        Fault::NotPair => (b"4 NotPair", None),
+        Fault::NotVector => (b"5 NotVector", None),
+        Fault::IndexRange => (b"6 IndexRange", None),
+        Fault::FixnumOverflow => (b"7 FixnumOverflow", None),
+        Fault::DivideByZero => (b"8 DivideByZero", None),
+        Fault::Unbound => (b"9 Unbound", None),
+        Fault::DeadEscape => (b"10 DeadEscape", None),
+        Fault::NotHandled => (b"11 NotHandled", None),
+        Fault::NotChar => (b"12 NotChar", None),
+        Fault::NotString => (b"13 NotString", None),
+        Fault::CharRange => (b"14 CharRange", None),
+        Fault::User(number) => (b"15 User", Some(number)),
+        Fault::NotSymbol => (b"16 NotSymbol", None),
+    }
+}
+
+/// Puts the line of a fault.
+pub fn put_fault<S: Sink>(sink: &mut S, fault: Fault) -> Result<(), Failed>
+    ensures ok { OnOk result (S.took sink.old (fault_line fault) sink.new) }
+    ensures cause { HasCause (S.faults sink.old) (S.faults sink.new) result }
+{
+    let (words, operand) = words_of(fault);
+    match operand {
+        None => put_all(sink, &[b"fault ", words, b"\n"]),
+        Some(number) => {
+            let mut buffer = Buffer::new();
+            let number = buffer.format(number).as_bytes();
+            put_all(sink, &[b"fault ", words, b" ", number, b"\n"])
+        }
+    }
+}
+
+fn region(stack: bool) -> &'static [u8]
+    ensures { result.now ≡ region_name stack }
+{
+    if stack { b"stack" } else { b"heap" }
+}
+
+/// Puts the line of a full heap or stack, with the bytes asked for and left.
+pub fn put_full<S: Sink>(sink: &mut S, stack: bool, asked: u32, left: u32) -> Result<(), Failed>
+    ensures ok { OnOk result (S.took sink.old (full_line stack asked left) sink.new) }
+    ensures cause { HasCause (S.faults sink.old) (S.faults sink.new) result }
+{
+    let mut asked_text = Buffer::new();
+    let mut left_text = Buffer::new();
+    let asked = asked_text.format(asked).as_bytes();
+    let left = left_text.format(left).as_bytes();
+    put_all(
+        sink,
+        &[region(stack), b" full: asked ", asked, b" left ", left, b"\n"],
+    )
+}
+
+/// Puts the line of a run that did not end within so many instructions.
+pub fn put_limit<S: Sink>(sink: &mut S, steps: u64) -> Result<(), Failed>
+    ensures ok { OnOk result (S.took sink.old (limit_line steps) sink.new) }
+    ensures cause { HasCause (S.faults sink.old) (S.faults sink.new) result }
+{
+    let mut buffer = Buffer::new();
+    let steps = buffer.format(steps).as_bytes();
+    put_all(sink, &[b"step limit: ", steps, b"\n"])
+}
+
+fn name_of_stop(why: Why) -> &'static [u8]
+    ensures { result.now ≡ stop_name why }
+{
+    match why {
+        Why::Illegal => b"Illegal",
+        Why::BadAddress => b"BadAddress",
+        Why::OddAddress => b"OddAddress",
+        Why::ZeroDivide => b"ZeroDivide",
+        Why::BadService => b"BadService",
+    }
+}
+
+fn digit_of(digit: u32) -> u8
+    requires { digit < 16 }
+    ensures { result ≡ hex_digit digit }
+{
+    if digit < 10 {
+        b'0' + digit as u8
+    } else {
+        55 + digit as u8
+    }
+}
+
+// The eight digits of an address.
+#[tactic(auto, unfolding(crate::specs::Lines::hex_address))]
+fn digits_of(address: u32) -> [u8; 8]
+    ensures { result ≡ hex_address address }
+{
+    [
+        digit_of(address / 0x1000_0000 % 16),
+        digit_of(address / 0x100_0000 % 16),
+        digit_of(address / 0x10_0000 % 16),
+        digit_of(address / 0x1_0000 % 16),
+        digit_of(address / 0x1000 % 16),
+        digit_of(address / 0x100 % 16),
+        digit_of(address / 0x10 % 16),
+        digit_of(address % 16),
+    ]
+}
+
+/// Puts the line of a stop of the machine at an address.
+pub fn put_stop<S: Sink>(sink: &mut S, why: Why, at: u32) -> Result<(), Failed>
+    ensures ok { OnOk result (S.took sink.old (stop_line why at) sink.new) }
+    ensures cause { HasCause (S.faults sink.old) (S.faults sink.new) result }
+{
+    put_all(
+        sink,
+        &[b"machine stop ", name_of_stop(why), b" at ", &digits_of(at), b"\n"],
+    )
+}
+
+/// Puts the line of a file that could not be read.
+pub fn put_unread<S: Sink>(sink: &mut S, name: &str) -> Result<(), Failed>
+    ensures ok { OnOk result (S.took sink.old (unread_line name.now) sink.new) }
+    ensures cause { HasCause (S.faults sink.old) (S.faults sink.new) result }
+{
+    put_all(sink, &[b"cannot read: ", name.as_bytes(), b"\n"])
+}
+
+/// Puts the line of a file that is too long.
+pub fn put_long<S: Sink>(sink: &mut S, name: &str) -> Result<(), Failed>
+    ensures ok { OnOk result (S.took sink.old (long_line name.now) sink.new) }
+    ensures cause { HasCause (S.faults sink.old) (S.faults sink.new) result }
+{
+    put_all(sink, &[b"too long: ", name.as_bytes(), b"\n"])
+}
