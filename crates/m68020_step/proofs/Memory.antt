@@ -8,7 +8,7 @@ use Rattle.std.proofs.lemmas.Nat.{from_be_bytes-to_be_bytes_4}
 use Rattle.std.proofs.lemmas.List.{length-append, take-append-le, take-take, length-take, length-take-le, length-drop, drop-take, take_at, drop_at}
 use Rattle.std.proofs.lemmas.Slice.{drop-append-drop}
 use Rattle.m68020_step.specs.declared.storage.TheConstants.{CODE_START, STATICS_START, HEAP_START, STACK_START}
-use Rattle.m68020_step.specs.Storage.{Regions, lies_in, bytes_in, bytes_at, byte_at, long_at, can_write, spliced, with_bytes, with_byte, with_long}
+use Rattle.m68020_step.specs.Storage.{Regions, lies_in, bytes_in, bytes_at, byte_at, long_at, can_write, spliced, with_bytes, with_byte, with_long, SameShape}
 
 length_spliced : (bytes : List ℕ) (i : ℕ) (text : List ℕ) → i + length text ≤ length bytes → length (spliced bytes i text) ≡ length bytes
 length_spliced bytes i text le = simp (length-append, length-take, length-drop) (omega arith)
@@ -169,5 +169,16 @@ code_kept m at text = elim (leb_tells (suc at) HEAP_START) [
     | inr p ↦ elim (leb_tells (suc at) STACK_START) [
       | inl q ↦ rw (p.0, q.0) refl
       | inr q ↦ rw (p.0, q.0) refl
+    ]
+  ]
+
+-- and every region as long as it is
+pub shape_kept : (m : Regions) (at : ℕ) (text : List ℕ) → can_write m at (length text) ≡ true → SameShape m (with_bytes m at text)
+unfolding with_bytes
+shape_kept m at text h = elim (which m at (length text) h) [
+    | inl p ↦ rw (lt-ltb at HEAP_START p.1) (record { code = refl; statics = length_spliced m.statics (at - STATICS_START) text (lies STATICS_START m.statics at (length text) p.2).high; heap = refl; stack = refl })
+    | inr p ↦ elim p [
+      | inl p ↦ rw (le-ltb at HEAP_START p.0, lt-ltb at STACK_START p.1) (record { code = refl; statics = refl; heap = length_spliced m.heap (at - HEAP_START) text (lies HEAP_START m.heap at (length text) p.2).high; stack = refl })
+      | inr p ↦ rw (le-ltb at HEAP_START (omega (arith, p.0)), le-ltb at STACK_START p.0) (record { code = refl; statics = refl; heap = refl; stack = length_spliced m.stack (at - STACK_START) text (lies STACK_START m.stack at (length text) p.1).high })
     ]
   ]

@@ -5,6 +5,7 @@ mod arithmetic;
 mod condition_codes;
 mod control;
 mod instruction;
+pub mod laws;
 mod logic;
 mod machine;
 mod moves;
