@@ -4,6 +4,7 @@ use Rattle.std.specs.Prelude.{ℤ, pos, negsuc, not, ◌&&◌, ◌==◌, if◌th
 use Rattle.std.specs.Int.{w32, from_be_bytes, to_be_bytes, int_shr}
 use Rattle.std.specs.Int.Bits.{and_lt}
 use Rattle.std.proofs.lemmas.Nat.{or_lt}
+use Rattle.std.proofs.lemmas.List.{length-set}
 use Rattle.std.proofs.lemmas.Bool.{and_parts, ltb-true}
 use Rattle.std.proofs.lemmas.Bool.Decides.{leb_tells}
 use lib.Signed.{mag, mag_rem, mag_shr}
@@ -102,16 +103,16 @@ bytes_of_long v (suc (suc (suc (suc j)))) = omega arith
 -- ---- registers
 
 pub data_fits : (r : Registers) (i v : ℕ) → HasLongs r → v < 2 ^ 32 → HasLongs (with_data r i v)
-data_fits r i v h lt = record { d = below_set (2 ^ 32) r.d i v h.d lt; a = h.a; pc = h.pc }
+data_fits r i v h lt = record { d_count = length-set r.d i v ∙ h.d_count; a_count = h.a_count; d = below_set (2 ^ 32) r.d i v h.d lt; a = h.a; pc = h.pc }
 
 pub address_fits : (r : Registers) (i v : ℕ) → HasLongs r → v < 2 ^ 32 → HasLongs (with_address r i v)
-address_fits r i v h lt = record { d = h.d; a = below_set (2 ^ 32) r.a i v h.a lt; pc = h.pc }
+address_fits r i v h lt = record { d_count = h.d_count; a_count = length-set r.a i v ∙ h.a_count; d = h.d; a = below_set (2 ^ 32) r.a i v h.a lt; pc = h.pc }
 
 pub pc_fits : (r : Registers) (at : ℕ) → HasLongs r → at < 2 ^ 32 → HasLongs (with_pc r at)
-pc_fits r at h lt = record { d = h.d; a = h.a; pc = lt }
+pc_fits r at h lt = record { d_count = h.d_count; a_count = h.a_count; d = h.d; a = h.a; pc = lt }
 
 pub flags_fit : (r : Registers) (f : Flags) → HasLongs r → HasLongs (with_flags r f)
-flags_fit r f h = record { d = h.d; a = h.a; pc = h.pc }
+flags_fit r f h = record { d_count = h.d_count; a_count = h.a_count; d = h.d; a = h.a; pc = h.pc }
 
 -- ---- operands
 

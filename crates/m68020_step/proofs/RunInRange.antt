@@ -53,7 +53,7 @@ boot_addresses heap stack h k (suc (suc (suc (suc (suc (suc (suc (suc i)))))))) 
 pub boot_in_range : (code statics : List ℕ) (entry : ℕ) (sizes : Sizes) → AreBytes code → AreBytes statics → entry < 2 ^ 32 → is_size sizes.heap ≡ true → is_size sizes.stack ≡ true
     → IsInRange (boot_of code statics entry sizes)
 boot_in_range code statics entry sizes h k lt heap stack = record {
-  registers = record { d = boot_data; a = boot_addresses sizes.heap sizes.stack (size_small sizes.heap heap) (size_small sizes.stack stack); pc = lt };
+  registers = record { d_count = refl; a_count = refl; d = boot_data; a = boot_addresses sizes.heap sizes.stack (size_small sizes.heap heap) (size_small sizes.stack stack); pc = lt };
   storage = record { code = h; statics = k; heap = zeros_below sizes.heap 256 (omega arith); stack = zeros_below sizes.stack 256 (omega arith) };
 }
 

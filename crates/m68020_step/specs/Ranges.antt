@@ -12,8 +12,10 @@ AreBytes bytes = (i : ℕ) → slice_index bytes i < 256
 abbrev pub AreLongs : List ℕ → Type 0
 AreLongs longs = (i : ℕ) → slice_index longs i < 2 ^ 32
 
--- each register is a long word
+-- eight data registers and eight address registers, each of them and the program counter a long word
 pub record HasLongs (r : Registers) : Type 0 where
+  pub d_count : length r.d ≡ 8
+  pub a_count : length r.a ≡ 8
   pub d : AreLongs r.d
   pub a : AreLongs r.a
   pub pc : r.pc < 2 ^ 32
