@@ -1,20 +1,15 @@
 -- Operands of registers and storage in range are in range, and so is what is stored.
-use Rattle.std.proofs.Common.{◌≡◌, ℕ, zero, suc, ◌+◌, ◌-◌, ◌*◌, ◌/◌, ◌%◌, ◌^◌, ◌<◌, ◌≤◌, Bool, true, false, leb, ltb, eqb, List, [], ◌∷◌, ◌++◌, length, take, drop, get_or, set, Option, Some, None, refl, sym, ap, subst, ◌∙◌, arith, inl, inr, ◌⊎◌}
-use Rattle.std.specs.Prelude.{ℤ, pos, negsuc, not, ◌&&◌, ◌==◌, if◌then◌else◌, Result, Ok, Err, slice_index, bit_and, bit_or, int_div, int_rem, option_map}
+use Rattle.std.proofs.Common.{◌≡◌, ℕ, zero, suc, ◌-◌, ◌^◌, ◌<◌, Bool, true, false, ltb, List, [], ◌∷◌, ◌++◌, take, drop, get_or, set, Option, Some, None, refl, ◌∙◌, arith, inl, inr}
+use Rattle.std.specs.Prelude.{ℤ, pos, negsuc, if◌then◌else◌, Result, Ok, Err, slice_index, int_rem, option_map}
 use Rattle.std.specs.Int.{w32, from_be_bytes, to_be_bytes, int_shr}
-use Rattle.std.specs.Int.Bits.{and_lt}
-use Rattle.std.proofs.lemmas.Nat.{or_lt}
 use Rattle.std.proofs.lemmas.List.{length-set}
-use Rattle.std.proofs.lemmas.Bool.{and_parts, ltb-true}
+use Rattle.std.proofs.lemmas.Bool.{ltb-true}
 use Rattle.std.proofs.lemmas.Bool.Decides.{leb_tells}
 use lib.Signed.{mag, mag_rem, mag_shr}
-use Rattle.m68020_code.specs.declared.instr.Index.{Index}
 use Rattle.m68020_code.specs.declared.instr.Ea.{Ea}
 use Rattle.m68020_code.specs.declared.instr.Ea.TheVariants.{D, A, Ind, Post, Pre, Disp, Abs, Imm}
 use Rattle.m68020_code.specs.declared.instr.Ea.TheVariants as ea
-use Rattle.m68020_code.specs.declared.instr.Instr.{Instr}
-use Rattle.m68020_code.specs.declared.instr.Instr.TheVariants as instr
-use Rattle.m68020_code.specs.Table.{fits, is_all, index_is_row, is_data_mode, is_byte, is_alter_mode, is_changed_mode, is_control_mode, counts, is_row}
+use Rattle.m68020_code.specs.Table.{fits, is_all}
 use Rattle.m68020_step.specs.declared.registers.Flags.{Flags}
 use Rattle.m68020_step.specs.declared.registers.Registers.{Registers}
 use Rattle.m68020_step.specs.declared.registers.Why.{Why}
@@ -27,16 +22,10 @@ use Rattle.m68020_step.specs.declared.operand.OperandSize.TheVariants.{Byte, Lon
 use Rattle.m68020_step.specs.declared.operand.Place.{Place}
 use Rattle.m68020_step.specs.declared.operand.Place.TheVariants.{Data, Address, Memory, Value}
 use Rattle.m68020_step.specs.declared.storage.TheConstants.{CODE_START, STATICS_START, HEAP_START, STACK_START}
-use Rattle.m68020_step.specs.Word.{wrap, sum_of, difference_of, product_of, signed, unsigned, with_low_byte}
+use Rattle.m68020_step.specs.Word.{wrap, signed, unsigned}
 use Rattle.m68020_step.specs.Storage.{Regions, lies_in, bytes_in, bytes_at, byte_at, long_at, can_write}
-use Rattle.m68020_step.specs.ConditionCodes.{holds}
-use Rattle.m68020_step.specs.Operand.{◌>>=◌, next, data_at, address_at, with_data, with_address, with_flags, with_pc, address_of, Located, located, or_bad_address, read_long, read_byte, Fetched, long_operand, byte_operand, store_long, store_byte, change_long}
-use Rattle.m68020_step.specs.Moves.{move_long, move_byte, move_address, move_quick, load_effective_address, clear_long, exchange_data, exchange_addresses, exchange_data_and_address}
-use Rattle.m68020_step.specs.Arithmetic.{add_long, subtract_long, compare_long, add_address, subtract_address, compare_address, add_quick_to, add_quick, subtract_quick_from, subtract_quick, add_immediate, compare_immediate, multiply_long, divide_by, divide_long}
-use Rattle.m68020_step.specs.Logic.{and_long, or_long, and_immediate, test_long, shift_left, shift_right}
-use Rattle.m68020_step.specs.Control.{branch, jump, trap}
-use Rattle.m68020_step.specs.Step.{executed}
-use Rattle.m68020_step.specs.Ranges.{AreBytes, AreLongs, HasLongs, HasBytes}
+use Rattle.m68020_step.specs.Operand.{◌>>=◌, next, with_data, with_address, with_flags, with_pc, address_of, Located, located, or_bad_address, read_long, read_byte, Fetched, long_operand, byte_operand, store_long, store_byte, change_long}
+use Rattle.m68020_step.specs.Ranges.{AreBytes, HasLongs, HasBytes}
 
 -- ---- numbers
 
@@ -45,9 +34,9 @@ wrap_lt n = omega arith
 
 signed_small : (n : ℕ) → n < 2 ^ 32 → mag (signed n) < 2 ^ 31
 signed_small n lt = elim (leb_tells (suc n) (2 ^ 31)) [
-    | inl p ↦ rw p.0 p.1
-    | inr p ↦ rw p.0 (omega (arith, p.1))
-  ]
+  | inl p ↦ rw p.0 p.1
+  | inr p ↦ rw p.0 (omega (arith, p.1))
+]
 
 pub unsigned_lt : (z : ℤ) → mag z < 2 ^ 31 → unsigned z < 2 ^ 32
 unsigned_lt (pos n) h = omega arith
@@ -167,8 +156,8 @@ bytes_fit : (m : Regions) (at len : ℕ) → HasBytes m → BytesFit (bytes_at m
 unfolding bytes_at
 bytes_fit m at len h =
     either_fits (ltb at STATICS_START) _ _ (bytes_in_fit CODE_START m.code at len h.code)
-      (either_fits (ltb at HEAP_START) _ _ (bytes_in_fit STATICS_START m.statics at len h.statics)
-        (either_fits (ltb at STACK_START) _ _ (bytes_in_fit HEAP_START m.heap at len h.heap) (bytes_in_fit STACK_START m.stack at len h.stack)))
+    (either_fits (ltb at HEAP_START) _ _ (bytes_in_fit STATICS_START m.statics at len h.statics)
+    (either_fits (ltb at STACK_START) _ _ (bytes_in_fit HEAP_START m.heap at len h.heap) (bytes_in_fit STACK_START m.stack at len h.stack)))
 
 abbrev ValueFits : ℕ → Result ℕ Why → Type 0
 ValueFits bound (Ok v) = v < bound

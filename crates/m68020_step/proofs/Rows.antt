@@ -1,5 +1,5 @@
 -- What single rows come to at operands in registers, statics and the instruction itself.
-use Rattle.std.proofs.Common.{◌≡◌, ℕ, ◌+◌, ◌<◌, true, Option, Some, refl, arith}
+use Rattle.std.proofs.Common.{◌≡◌, ℕ, ◌+◌, ◌<◌, true, Some, refl, arith}
 use Rattle.std.specs.Prelude.{◌≢◌, ℤ, if◌then◌else◌}
 use Rattle.std.proofs.lemmas.List.{get_or-set_same, get_or-set_other}
 use Rattle.m68020_code.specs.declared.instr.Ea.TheVariants.{D, Abs, Imm}

@@ -1,43 +1,30 @@
 -- Each row leaves long words in the registers, and writes bytes where it may.
-use Rattle.std.proofs.Common.{◌≡◌, ℕ, zero, suc, ◌+◌, ◌-◌, ◌*◌, ◌/◌, ◌%◌, ◌^◌, ◌<◌, ◌≤◌, Bool, true, false, leb, ltb, eqb, List, [], ◌∷◌, ◌++◌, length, take, drop, get_or, set, Option, Some, None, refl, sym, ap, subst, ◌∙◌, arith, inl, inr, ◌⊎◌}
-use Rattle.std.specs.Prelude.{ℤ, pos, negsuc, not, ◌&&◌, ◌==◌, if◌then◌else◌, Result, Ok, Err, slice_index, bit_and, bit_or, int_div, int_rem, option_map}
-use Rattle.std.specs.Int.{w32, from_be_bytes, to_be_bytes, int_shr}
+use Rattle.std.proofs.Common.{◌≡◌, ℕ, ◌+◌, ◌^◌, ◌<◌, Bool, true, false, ltb, eqb, arith}
+use Rattle.std.specs.Prelude.{ℤ, pos, negsuc, not, ◌&&◌, ◌==◌, if◌then◌else◌, int_div}
 use Rattle.std.specs.Int.Bits.{and_lt}
 use Rattle.std.proofs.lemmas.Nat.{or_lt}
 use Rattle.std.proofs.lemmas.Bool.{and_parts, ltb-true}
-use Rattle.std.proofs.lemmas.Bool.Decides.{leb_tells}
-use lib.Signed.{mag, mag_rem, mag_shr}
-use Rattle.m68020_code.specs.declared.instr.Index.{Index}
+use lib.Signed.{mag}
 use Rattle.m68020_code.specs.declared.instr.Ea.{Ea}
-use Rattle.m68020_code.specs.declared.instr.Ea.TheVariants.{D, A, Ind, Post, Pre, Disp, Abs, Imm}
-use Rattle.m68020_code.specs.declared.instr.Ea.TheVariants as ea
 use Rattle.m68020_code.specs.declared.instr.Cond.{Cond}
 use Rattle.m68020_code.specs.declared.instr.Instr.{Instr}
 use Rattle.m68020_code.specs.declared.instr.Instr.TheVariants as instr
-use Rattle.m68020_code.specs.Table.{fits, is_all, index_is_row, is_data_mode, is_byte, is_alter_mode, is_changed_mode, is_control_mode, counts, is_row}
-use Rattle.m68020_step.specs.declared.registers.Flags.{Flags}
+use Rattle.m68020_code.specs.Table.{fits, is_all, is_data_mode, is_byte, is_alter_mode, is_changed_mode, is_control_mode, counts, is_row}
 use Rattle.m68020_step.specs.declared.registers.Registers.{Registers}
-use Rattle.m68020_step.specs.declared.registers.Why.{Why}
-use Rattle.m68020_step.specs.declared.registers.Why.TheVariants.{BadAddress}
-use Rattle.m68020_step.specs.declared.registers.Effect.{Effect}
-use Rattle.m68020_step.specs.declared.registers.Effect.TheVariants.{Nothing, WriteByte, WriteLong, Service}
-use Rattle.m68020_step.specs.declared.registers.Next.{Next}
-use Rattle.m68020_step.specs.declared.operand.OperandSize.{OperandSize}
 use Rattle.m68020_step.specs.declared.operand.OperandSize.TheVariants.{Byte, Long}
 use Rattle.m68020_step.specs.declared.operand.Place.{Place}
 use Rattle.m68020_step.specs.declared.operand.Place.TheVariants.{Data, Address, Memory, Value}
-use Rattle.m68020_step.specs.declared.storage.TheConstants.{CODE_START, STATICS_START, HEAP_START, STACK_START}
-use Rattle.m68020_step.specs.Word.{wrap, sum_of, difference_of, product_of, signed, unsigned, with_low_byte}
-use Rattle.m68020_step.specs.Storage.{Regions, lies_in, bytes_in, bytes_at, byte_at, long_at, can_write}
+use Rattle.m68020_step.specs.Word.{sum_of, signed, unsigned}
+use Rattle.m68020_step.specs.Storage.{Regions}
 use Rattle.m68020_step.specs.ConditionCodes.{holds}
-use Rattle.m68020_step.specs.Operand.{◌>>=◌, next, data_at, address_at, with_data, with_address, with_flags, with_pc, address_of, Located, located, or_bad_address, read_long, read_byte, Fetched, long_operand, byte_operand, store_long, store_byte, change_long}
+use Rattle.m68020_step.specs.Operand.{data_at, with_pc, address_of}
 use Rattle.m68020_step.specs.Moves.{move_long, move_byte, move_address, move_quick, load_effective_address, clear_long, exchange_data, exchange_addresses, exchange_data_and_address}
 use Rattle.m68020_step.specs.Arithmetic.{add_long, subtract_long, compare_long, add_address, subtract_address, compare_address, add_quick_to, add_quick, subtract_quick_from, subtract_quick, add_immediate, compare_immediate, multiply_long, divide_by, divide_long}
 use Rattle.m68020_step.specs.Logic.{and_long, or_long, and_immediate, test_long, shift_left, shift_right}
 use Rattle.m68020_step.specs.Control.{branch, jump, trap}
 use Rattle.m68020_step.specs.Step.{executed}
-use Rattle.m68020_step.specs.Ranges.{AreBytes, AreLongs, HasLongs, HasBytes}
-use Rattle.m68020_step.proofs.InRange.{wrap_lt, unsigned_lt, fits_small, shifted_lt, remainder_lt, data_fits, address_fits, pc_fits, flags_fit, PlaceFits, LocatedFits, located_fits, address_lt, long_operand_fits, byte_operand_fits, EffectFits, Fits, bind_fits, either_outcome, store_long_fits, store_byte_fits, change_long_fits}
+use Rattle.m68020_step.specs.Ranges.{HasLongs, HasBytes}
+use Rattle.m68020_step.proofs.InRange.{wrap_lt, unsigned_lt, fits_small, shifted_lt, remainder_lt, data_fits, address_fits, pc_fits, flags_fit, PlaceFits, located_fits, address_lt, long_operand_fits, byte_operand_fits, Fits, bind_fits, either_outcome, store_long_fits, store_byte_fits, change_long_fits}
 
 -- ---- moves
 

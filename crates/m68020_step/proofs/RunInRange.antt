@@ -1,6 +1,6 @@
 -- Boot is in range, and a step keeps a state in range and its regions as long as they are.
-use Rattle.std.proofs.Common.{◌≡◌, ℕ, zero, suc, ◌+◌, ◌-◌, ◌*◌, ◌%◌, ◌^◌, ◌<◌, ◌≤◌, Bool, true, false, leb, eqb, List, [], ◌∷◌, ◌++◌, length, take, drop, get_or, Option, Some, None, refl, sym, ap, ◌∙◌, arith, inl, inr}
-use Rattle.std.specs.Prelude.{◌&&◌, ◌==◌, not, nat_le, if◌then◌else◌, replicate, Result, Ok, Err, IsTrue, option_map}
+use Rattle.std.proofs.Common.{◌≡◌, ℕ, zero, suc, ◌+◌, ◌-◌, ◌%◌, ◌^◌, ◌<◌, ◌≤◌, Bool, true, false, List, [], ◌∷◌, ◌++◌, length, take, drop, get_or, Option, Some, None, refl, arith, inl, inr}
+use Rattle.std.specs.Prelude.{◌&&◌, ◌==◌, not, nat_le, if◌then◌else◌, replicate, Result, Ok, Err, option_map}
 use Rattle.std.specs.Int.{w32, to_be_bytes}
 use Rattle.std.proofs.lemmas.Bool.{and_parts, leb-true}
 use Rattle.std.proofs.lemmas.Bool.Decides.{leb_tells}
@@ -9,19 +9,17 @@ use Rattle.m68020_code.specs.Table.{is_row}
 use Rattle.m68020_code.specs.Reading.{instr_at, decode_of}
 use Rattle.m68020_code.proofs.Takes.{takes}
 use Rattle.m68020_step.specs.declared.machine.Sizes.{Sizes}
-use Rattle.m68020_step.specs.declared.registers.Registers.{Registers}
 use Rattle.m68020_step.specs.declared.registers.Why.{Why}
-use Rattle.m68020_step.specs.declared.registers.Why.TheVariants.{OddAddress, BadAddress, Illegal}
 use Rattle.m68020_step.specs.declared.registers.Effect.{Effect}
 use Rattle.m68020_step.specs.declared.registers.Effect.TheVariants.{Nothing, WriteByte, WriteLong, Service}
 use Rattle.m68020_step.specs.declared.registers.Next.{Next}
 use Rattle.m68020_step.specs.declared.storage.TheConstants.{CODE_START, STATICS_START, HEAP_START, STACK_START}
-use Rattle.m68020_step.specs.Storage.{Regions, can_write, spliced, with_bytes, SameShape}
+use Rattle.m68020_step.specs.Storage.{Regions, spliced, with_bytes, SameShape}
 use Rattle.m68020_step.specs.Word.{sum_of}
 use Rattle.m68020_step.specs.Operand.{◌>>=◌, with_pc}
 use Rattle.m68020_step.specs.Boot.{is_size, boot_of}
 use Rattle.m68020_step.specs.Step.{State, is_in_code, code_from, or_illegal, instruction_at, executed, next_of, with_effect, after, step_of}
-use Rattle.m68020_step.specs.Ranges.{AreBytes, HasLongs, HasBytes, IsInRange, KeepsRange}
+use Rattle.m68020_step.specs.Ranges.{AreBytes, HasBytes, IsInRange, KeepsRange}
 use Rattle.m68020_step.proofs.InRange.{wrap_lt, below_append, below_take, below_drop, bytes_of_long, pc_fits, EffectFits, Fits}
 use Rattle.m68020_step.proofs.RowsInRange.{executed_fits}
 use Rattle.m68020_step.proofs.Memory.{shape_kept}
@@ -65,12 +63,12 @@ bytes_spliced bytes i text h k = below_append 256 (take i bytes ++ text) (drop (
 bytes_kept_in_range : (m : Regions) (at : ℕ) (text : List ℕ) → HasBytes m → AreBytes text → HasBytes (with_bytes m at text)
 unfolding with_bytes
 bytes_kept_in_range m at text h k = elim (leb_tells (suc at) HEAP_START) [
-    | inl p ↦ rw p.0 (record { code = h.code; statics = bytes_spliced m.statics (at - STATICS_START) text h.statics k; heap = h.heap; stack = h.stack })
-    | inr p ↦ elim (leb_tells (suc at) STACK_START) [
-      | inl q ↦ rw (p.0, q.0) (record { code = h.code; statics = h.statics; heap = bytes_spliced m.heap (at - HEAP_START) text h.heap k; stack = h.stack })
-      | inr q ↦ rw (p.0, q.0) (record { code = h.code; statics = h.statics; heap = h.heap; stack = bytes_spliced m.stack (at - STACK_START) text h.stack k })
-    ]
+  | inl p ↦ rw p.0 (record { code = h.code; statics = bytes_spliced m.statics (at - STATICS_START) text h.statics k; heap = h.heap; stack = h.stack })
+  | inr p ↦ elim (leb_tells (suc at) STACK_START) [
+    | inl q ↦ rw (p.0, q.0) (record { code = h.code; statics = h.statics; heap = bytes_spliced m.heap (at - HEAP_START) text h.heap k; stack = h.stack })
+    | inr q ↦ rw (p.0, q.0) (record { code = h.code; statics = h.statics; heap = h.heap; stack = bytes_spliced m.stack (at - STACK_START) text h.stack k })
   ]
+]
 
 one_byte : (v : ℕ) → v < 256 → AreBytes (v ∷ [])
 one_byte v lt zero = lt

@@ -1,5 +1,5 @@
 -- The numbers that registers and storage hold: long words and bytes.
-use Rattle.std.specs.Prelude.{◌≡◌, ℕ, ◌^◌, ◌<◌, Bool, List, length, slice_index, IsTrue}
+use Rattle.std.specs.Prelude.{◌≡◌, ℕ, ◌^◌, ◌<◌, List, length, slice_index, IsTrue}
 use Rattle.m68020_step.specs.declared.machine.Sizes.{Sizes}
 use Rattle.m68020_step.specs.declared.registers.Registers.{Registers}
 use Rattle.m68020_step.specs.Storage.{Regions, SameShape}
