@@ -1,8 +1,7 @@
 -- How many bytes an instruction has.
-use Rattle.std.proofs.Common.{◌≡◌, ℕ, ◌+◌, ◌*◌, ◌%◌, ◌≤◌, List, ◌∷◌, ◌++◌, length, refl, arith}
+use Rattle.std.proofs.Common.{◌≡◌, ℕ, ◌+◌, ◌*◌, ◌≤◌, List, ◌∷◌, ◌++◌, length, refl, arith}
 use Rattle.std.proofs.lemmas.List.{length-append}
 use Rattle.std.specs.Prelude.{ℤ}
-use Rattle.m68020_code.specs.declared.instr.Index.{Index}
 use Rattle.m68020_code.specs.declared.instr.Ea.{Ea}
 use Rattle.m68020_code.specs.declared.instr.Ea.TheVariants.{D, A, Ind, Post, Pre, Disp, Abs, Imm}
 use Rattle.m68020_code.specs.declared.instr.Ea.TheVariants as ea

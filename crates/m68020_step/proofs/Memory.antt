@@ -1,5 +1,5 @@
 -- What is read after a write.
-use Rattle.std.proofs.Common.{◌≡◌, ℕ, suc, ◌+◌, ◌-◌, ◌*◌, ◌%◌, ◌^◌, ◌<◌, ◌≤◌, Bool, true, false, List, [], ◌∷◌, ◌++◌, length, take, drop, Option, Some, refl, sym, ap, ◌∙◌, append_assoc, arith, inl, inr, ◌⊎◌, leb, ltb}
+use Rattle.std.proofs.Common.{◌≡◌, ℕ, suc, ◌+◌, ◌-◌, ◌^◌, ◌<◌, ◌≤◌, Bool, true, false, List, ◌++◌, length, take, drop, Option, Some, refl, sym, ap, ◌∙◌, append_assoc, arith, inl, inr, ◌⊎◌, leb}
 use Rattle.std.specs.Prelude.{if◌then◌else◌, nat_lt, None}
 use Rattle.std.specs.Int.{w32, to_be_bytes}
 use Rattle.std.proofs.lemmas.Bool.{and_parts, lt-ltb, le-ltb, le-leb, leb-true}
@@ -8,7 +8,7 @@ use Rattle.std.proofs.lemmas.Nat.{from_be_bytes-to_be_bytes_4}
 use Rattle.std.proofs.lemmas.List.{length-append, take-append-le, take-take, length-take, length-take-le, length-drop, drop-take, take_at, drop_at}
 use Rattle.std.proofs.lemmas.Slice.{drop-append-drop}
 use Rattle.m68020_step.specs.declared.storage.TheConstants.{CODE_START, STATICS_START, HEAP_START, STACK_START}
-use Rattle.m68020_step.specs.Storage.{Regions, lies_in, bytes_in, bytes_at, byte_at, long_at, can_write, spliced, with_bytes, with_byte, with_long}
+use Rattle.m68020_step.specs.Storage.{Regions, lies_in, bytes_in, bytes_at, byte_at, long_at, can_write, spliced, with_bytes, with_long, SameShape}
 
 length_spliced : (bytes : List ℕ) (i : ℕ) (text : List ℕ) → i + length text ≤ length bytes → length (spliced bytes i text) ≡ length bytes
 length_spliced bytes i text le = simp (length-append, length-take, length-drop) (omega arith)
@@ -18,16 +18,16 @@ taken_same : (bytes : List ℕ) (i : ℕ) (text : List ℕ) → i + length text 
 taken_same bytes i text le =
     let front : length (take i bytes) ≡ i = length-take-le i bytes (omega arith) in
     rw (append_assoc (take i bytes) text (drop (i + length text) bytes), drop_at (take i bytes) (text ++ drop (i + length text) bytes) i front)
-      (take_at text (drop (i + length text) bytes) (length text) refl)
+    (take_at text (drop (i + length text) bytes) (length text) refl)
 
 -- the bytes before them are as before
 taken_before : (bytes : List ℕ) (i : ℕ) (text : List ℕ) (j len : ℕ) → i + length text ≤ length bytes → j + len ≤ i → take len (drop j (spliced bytes i text)) ≡ take len (drop j bytes)
 taken_before bytes i text j len le before =
     let front : length (take i bytes) ≡ i = length-take-le i bytes (omega arith) in
     let same : take (j + len) (spliced bytes i text) ≡ take (j + len) bytes =
-        take-append-le (j + len) (take i bytes ++ text) (drop (i + length text) bytes) (omega (arith, front, length-append (take i bytes) text))
-        ∙ take-append-le (j + len) (take i bytes) text (omega (arith, front))
-        ∙ take-take (j + len) i bytes before in
+    take-append-le (j + len) (take i bytes ++ text) (drop (i + length text) bytes) (omega (arith, front, length-append (take i bytes) text))
+    ∙ take-append-le (j + len) (take i bytes) text (omega (arith, front))
+    ∙ take-take (j + len) i bytes before in
     sym (drop-take j len (spliced bytes i text)) ∙ ap (drop j) same ∙ drop-take j len bytes
 
 -- and so are those behind them
@@ -79,33 +79,33 @@ kept_in start bytes at text other more h apart =
 -- the region of an address that may be written, by its number
 which : (m : Regions) (at len : ℕ) → can_write m at len ≡ true
     → ((STATICS_START ≤ at) × (at < HEAP_START) × (lies_in STATICS_START m.statics at len ≡ true))
-      ⊎ (((HEAP_START ≤ at) × (at < STACK_START) × (lies_in HEAP_START m.heap at len ≡ true))
-      ⊎ ((STACK_START ≤ at) × (lies_in STACK_START m.stack at len ≡ true)))
+    ⊎ (((HEAP_START ≤ at) × (at < STACK_START) × (lies_in HEAP_START m.heap at len ≡ true))
+    ⊎ ((STACK_START ≤ at) × (lies_in STACK_START m.stack at len ≡ true)))
 unfolding can_write
 which m at len h = elim (leb_tells (suc at) HEAP_START) [
-    | inl p ↦
-        let k : lies_in STATICS_START m.statics at len ≡ true = rw p.0 at h in
-        inl ((lies STATICS_START m.statics at len k).low, p.1, k)
-    | inr p ↦ elim (leb_tells (suc at) STACK_START) [
-      | inl q ↦
-          let k : lies_in HEAP_START m.heap at len ≡ true = rw (p.0, q.0) at h in
-          inr (inl (omega (arith, p.1), q.1, k))
-      | inr q ↦
-          let k : lies_in STACK_START m.stack at len ≡ true = rw (p.0, q.0) at h in
-          inr (inr (omega (arith, q.1), k))
-    ]
+  | inl p ↦
+      let k : lies_in STATICS_START m.statics at len ≡ true = rw p.0 at h in
+      inl ((lies STATICS_START m.statics at len k).low, p.1, k)
+  | inr p ↦ elim (leb_tells (suc at) STACK_START) [
+    | inl q ↦
+        let k : lies_in HEAP_START m.heap at len ≡ true = rw (p.0, q.0) at h in
+        inr (inl (omega (arith, p.1), q.1, k))
+    | inr q ↦
+        let k : lies_in STACK_START m.stack at len ≡ true = rw (p.0, q.0) at h in
+        inr (inr (omega (arith, q.1), k))
   ]
+]
 
 -- the bytes written are read again
 pub bytes_written : (m : Regions) (at : ℕ) (text : List ℕ) → can_write m at (length text) ≡ true → bytes_at (with_bytes m at text) at (length text) ≡ Some text
 unfolding bytes_at with_bytes
 bytes_written m at text h = elim (which m at (length text) h) [
-    | inl p ↦ rw (le-ltb at STATICS_START p.0, lt-ltb at HEAP_START p.1) (written_in STATICS_START m.statics at text p.2)
-    | inr p ↦ elim p [
-      | inl p ↦ rw (le-ltb at STATICS_START (omega (arith, p.0)), le-ltb at HEAP_START p.0, lt-ltb at STACK_START p.1) (written_in HEAP_START m.heap at text p.2)
-      | inr p ↦ rw (le-ltb at STATICS_START (omega (arith, p.0)), le-ltb at HEAP_START (omega (arith, p.0)), le-ltb at STACK_START p.0) (written_in STACK_START m.stack at text p.1)
-    ]
+  | inl p ↦ rw (le-ltb at STATICS_START p.0, lt-ltb at HEAP_START p.1) (written_in STATICS_START m.statics at text p.2)
+  | inr p ↦ elim p [
+    | inl p ↦ rw (le-ltb at STATICS_START (omega (arith, p.0)), le-ltb at HEAP_START p.0, lt-ltb at STACK_START p.1) (written_in HEAP_START m.heap at text p.2)
+    | inr p ↦ rw (le-ltb at STATICS_START (omega (arith, p.0)), le-ltb at HEAP_START (omega (arith, p.0)), le-ltb at STACK_START p.0) (written_in STACK_START m.stack at text p.1)
   ]
+]
 
 -- the bytes at an address, by what each region has there
 abbrev by_region : ℕ → Option (List ℕ) → Option (List ℕ) → Option (List ℕ) → Option (List ℕ) → Option (List ℕ)
@@ -121,12 +121,12 @@ bytes_kept m at text other more h apart =
     let heap : Option (List ℕ) = bytes_in HEAP_START m.heap other more in
     let stack : Option (List ℕ) = bytes_in STACK_START m.stack other more in
     elim (which m at (length text) h) [
-    | inl p ↦ rw (lt-ltb at HEAP_START p.1) (ap (λ (now : Option (List ℕ)). by_region other code now heap stack) (kept_in STATICS_START m.statics at text other more p.2 apart))
-    | inr p ↦ elim p [
-      | inl p ↦ rw (le-ltb at HEAP_START p.0, lt-ltb at STACK_START p.1) (ap (λ (now : Option (List ℕ)). by_region other code statics now stack) (kept_in HEAP_START m.heap at text other more p.2 apart))
-      | inr p ↦ rw (le-ltb at HEAP_START (omega (arith, p.0)), le-ltb at STACK_START p.0) (ap (λ (now : Option (List ℕ)). by_region other code statics heap now) (kept_in STACK_START m.stack at text other more p.1 apart))
+      | inl p ↦ rw (lt-ltb at HEAP_START p.1) (ap (λ (now : Option (List ℕ)). by_region other code now heap stack) (kept_in STATICS_START m.statics at text other more p.2 apart))
+      | inr p ↦ elim p [
+        | inl p ↦ rw (le-ltb at HEAP_START p.0, lt-ltb at STACK_START p.1) (ap (λ (now : Option (List ℕ)). by_region other code statics now stack) (kept_in HEAP_START m.heap at text other more p.2 apart))
+        | inr p ↦ rw (le-ltb at HEAP_START (omega (arith, p.0)), le-ltb at STACK_START p.0) (ap (λ (now : Option (List ℕ)). by_region other code statics heap now) (kept_in STACK_START m.stack at text other more p.1 apart))
+      ]
     ]
-  ]
 
 -- ---- long words
 
@@ -149,12 +149,12 @@ byte_kept m at v other h apart = rw (bytes_kept m at (to_be_bytes w32 v) other 1
 pub can_write_kept : (m : Regions) (at : ℕ) (text : List ℕ) (other more : ℕ) → can_write m at (length text) ≡ true → can_write (with_bytes m at text) other more ≡ can_write m other more
 unfolding can_write with_bytes
 can_write_kept m at text other more h = elim (which m at (length text) h) [
-    | inl p ↦ rw (lt-ltb at HEAP_START p.1, length_spliced m.statics (at - STATICS_START) text (lies STATICS_START m.statics at (length text) p.2).high) refl
-    | inr p ↦ elim p [
-      | inl p ↦ rw (le-ltb at HEAP_START p.0, lt-ltb at STACK_START p.1, length_spliced m.heap (at - HEAP_START) text (lies HEAP_START m.heap at (length text) p.2).high) refl
-      | inr p ↦ rw (le-ltb at HEAP_START (omega (arith, p.0)), le-ltb at STACK_START p.0, length_spliced m.stack (at - STACK_START) text (lies STACK_START m.stack at (length text) p.1).high) refl
-    ]
+  | inl p ↦ rw (lt-ltb at HEAP_START p.1, length_spliced m.statics (at - STATICS_START) text (lies STATICS_START m.statics at (length text) p.2).high) refl
+  | inr p ↦ elim p [
+    | inl p ↦ rw (le-ltb at HEAP_START p.0, lt-ltb at STACK_START p.1, length_spliced m.heap (at - HEAP_START) text (lies HEAP_START m.heap at (length text) p.2).high) refl
+    | inr p ↦ rw (le-ltb at HEAP_START (omega (arith, p.0)), le-ltb at STACK_START p.0, length_spliced m.stack (at - STACK_START) text (lies STACK_START m.stack at (length text) p.1).high) refl
   ]
+]
 
 -- a long word of statics may be written
 pub can_write_statics : (m : Regions) (at : ℕ) → STATICS_START ≤ at → at + 4 ≤ STATICS_START + length m.statics → length m.statics ≤ 2 ^ 29 → can_write m at 4 ≡ true
@@ -165,9 +165,20 @@ can_write_statics m at low high small = rw (lt-ltb at HEAP_START (omega arith), 
 pub code_kept : (m : Regions) (at : ℕ) (text : List ℕ) → (with_bytes m at text).code ≡ m.code
 unfolding with_bytes
 code_kept m at text = elim (leb_tells (suc at) HEAP_START) [
-    | inl p ↦ rw p.0 refl
-    | inr p ↦ elim (leb_tells (suc at) STACK_START) [
-      | inl q ↦ rw (p.0, q.0) refl
-      | inr q ↦ rw (p.0, q.0) refl
-    ]
+  | inl p ↦ rw p.0 refl
+  | inr p ↦ elim (leb_tells (suc at) STACK_START) [
+    | inl q ↦ rw (p.0, q.0) refl
+    | inr q ↦ rw (p.0, q.0) refl
   ]
+]
+
+-- and every region as long as it is
+pub shape_kept : (m : Regions) (at : ℕ) (text : List ℕ) → can_write m at (length text) ≡ true → SameShape m (with_bytes m at text)
+unfolding with_bytes
+shape_kept m at text h = elim (which m at (length text) h) [
+  | inl p ↦ rw (lt-ltb at HEAP_START p.1) (record { code = refl; statics = length_spliced m.statics (at - STATICS_START) text (lies STATICS_START m.statics at (length text) p.2).high; heap = refl; stack = refl })
+  | inr p ↦ elim p [
+    | inl p ↦ rw (le-ltb at HEAP_START p.0, lt-ltb at STACK_START p.1) (record { code = refl; statics = refl; heap = length_spliced m.heap (at - HEAP_START) text (lies HEAP_START m.heap at (length text) p.2).high; stack = refl })
+    | inr p ↦ rw (le-ltb at HEAP_START (omega (arith, p.0)), le-ltb at STACK_START p.0) (record { code = refl; statics = refl; heap = refl; stack = length_spliced m.stack (at - STACK_START) text (lies STACK_START m.stack at (length text) p.1).high })
+  ]
+]

@@ -1,6 +1,7 @@
 -- What single rows come to at operands in registers, statics and the instruction itself.
-use Rattle.std.proofs.Common.{◌≡◌, ℕ, ◌+◌, true, Option, Some, refl}
-use Rattle.std.specs.Prelude.{ℤ, if◌then◌else◌}
+use Rattle.std.proofs.Common.{◌≡◌, ℕ, ◌+◌, ◌<◌, true, Some, refl, arith}
+use Rattle.std.specs.Prelude.{◌≢◌, ℤ, if◌then◌else◌}
+use Rattle.std.proofs.lemmas.List.{get_or-set_same, get_or-set_other}
 use Rattle.m68020_code.specs.declared.instr.Ea.TheVariants.{D, Abs, Imm}
 use Rattle.m68020_code.specs.declared.instr.Cond.{Cond}
 use Rattle.m68020_code.specs.declared.instr.Width.{Width}
@@ -15,6 +16,15 @@ use Rattle.m68020_step.specs.Moves.{move_long, move_quick}
 use Rattle.m68020_step.specs.Arithmetic.{add_long, subtract_long}
 use Rattle.m68020_step.specs.Control.{branch, trap}
 use Rattle.m68020_step.specs.Step.{executed}
+use Rattle.m68020_step.specs.Ranges.{HasLongs}
+
+-- a data register that was set is read again
+pub data_set : (r : Registers) (n v : ℕ) → HasLongs r → n < 8 → data_at (with_data r n v) n ≡ v
+data_set r n v h lt = get_or-set_same r.d n v 0 (omega (arith, h.d_count))
+
+-- the others are as before
+pub data_kept : (r : Registers) (n v k : ℕ) → k ≢ n → data_at (with_data r n v) k ≡ data_at r k
+data_kept r n v k ne = get_or-set_other r.d n k v 0 ne
 
 -- MOVE.L #v,Dn
 pub move_immediate : (m : Regions) (at : ℕ) (r : Registers) (v n : ℕ) → executed m at r (MoveL (Imm v) (D n)) ≡ next (with_flags (with_data r n v) (flags_of_result r.flags v)) Nothing
