@@ -1,5 +1,5 @@
 -- How many instructions of a run ran.
-use Rattle.std.proofs.Common.{◌≡◌, ℕ, zero, suc, ◌+◌, ◌≤◌, List, Option, Some, None, refl, sym, ap, ◌∙◌, arith}
+use Rattle.std.proofs.Common.{◌≡◌, ℕ, zero, suc, ◌≤◌, List, Option, Some, None, refl, arith}
 use Rattle.m68020_step.specs.declared.machine.Step.{Step}
 use Rattle.m68020_step.specs.declared.machine.Step.TheVariants as step
 use Rattle.m68020_step.specs.Step.{State, step_of}
@@ -7,7 +7,7 @@ use Rattle.image_file.specs.Grammar.{Parts}
 use Rattle.m68020_step.specs.declared.machine.Sizes.{Sizes}
 use Rattle.orbit_monitor.specs.declared.end.Exit.{Exit}
 use Rattle.orbit_monitor.specs.Services.{Served, Puts, Exits, Bad, serve}
-use Rattle.orbit_monitor.specs.Run.{Progress, start_of, act, served, stepped, further, run_from, run, booted}
+use Rattle.orbit_monitor.specs.Run.{Progress, act, served, stepped, further, run}
 
 -- one, unless the machine stopped
 pub record Counts (p : Progress) : Type 0 where

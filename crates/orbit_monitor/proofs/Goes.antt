@@ -1,8 +1,7 @@
 -- A run by pieces: from a state to a state.
-use Rattle.std.proofs.Common.{◌≡◌, ℕ, ◌+◌, List, [], ◌++◌, Option, Some, None, refl, sym, ap, ◌∙◌, add-zero}
+use Rattle.std.proofs.Common.{◌≡◌, ℕ, ◌+◌, List, [], ◌++◌, None, refl, sym, ap, ◌∙◌, add-zero}
 use Rattle.std.proofs.lemmas.List.{append-nil}
 use Rattle.m68020_step.specs.Step.{State}
-use Rattle.orbit_monitor.specs.declared.end.Exit.{Exit}
 use Rattle.orbit_monitor.specs.Run.{Progress, start_of, act, followed, further, run_from}
 use Rattle.orbit_monitor.proofs.Runs.{run_from-next, run_from-add, run_from-followed}
 

@@ -1,10 +1,9 @@
 -- Laws of runs: a run that has ended stays, runs add up, and output only grows.
-use Rattle.std.proofs.Common.{◌≡◌, ℕ, zero, suc, ◌+◌, ◌-◌, ◌≤◌, ◌<◌, List, [], ◌∷◌, ◌++◌, Option, Some, None, refl, sym, ap, subst, ◌∙◌, arith, append_assoc, zero-add, add_assoc, add-zero}
+use Rattle.std.proofs.Common.{◌≡◌, ℕ, zero, suc, ◌+◌, ◌-◌, ◌≤◌, List, [], ◌++◌, Option, Some, None, refl, sym, ap, subst, ◌∙◌, arith, append_assoc, add_assoc, add-zero}
 use Rattle.std.proofs.lemmas.List.{append-nil}
-use Rattle.program_runs.specs.Runs.{Observation, IsPrefix}
+use Rattle.program_runs.specs.Runs.{IsPrefix}
 use Rattle.image_file.specs.Grammar.{Parts}
 use Rattle.m68020_step.specs.declared.machine.Sizes.{Sizes}
-use Rattle.m68020_step.specs.Step.{State}
 use Rattle.orbit_monitor.specs.declared.end.Exit.{Exit}
 use Rattle.orbit_monitor.specs.Run.{Progress, start_of, act, followed, further, run_from, run, booted}
 use Rattle.orbit_monitor.specs.Answering.{Loaded, run_on, after}
@@ -90,6 +89,6 @@ run_on-add b m k =
     let q = run_on b m in
     let here : Progress = record { state = q.state; output = []; end = q.end; instructions = 0 } in
     let same : q ≡ followed q here =
-      sym (ap (λ (l : List ℕ). let x : Progress = record { state = q.state; output = l; end = q.end; instructions = q.instructions + 0 } in x) (append-nil q.output)
-      ∙ ap (λ (n : ℕ). let x : Progress = record { state = q.state; output = q.output; end = q.end; instructions = n } in x) (add-zero q.instructions)) in
+    sym (ap (λ (l : List ℕ). let x : Progress = record { state = q.state; output = l; end = q.end; instructions = q.instructions + 0 } in x) (append-nil q.output)
+    ∙ ap (λ (n : ℕ). let x : Progress = record { state = q.state; output = q.output; end = q.end; instructions = n } in x) (add-zero q.instructions)) in
     run_from-add b.names p m k ∙ ap (λ (x : Progress). run_from b.names x k) same ∙ run_from-followed b.names q here k

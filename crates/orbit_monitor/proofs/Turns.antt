@@ -1,5 +1,5 @@
 -- What an instruction and a service come to, and how they carry a run further.
-use Rattle.std.proofs.Common.{◌≡◌, ℕ, suc, ◌+◌, ◌-◌, ◌≤◌, ◌<◌, List, [], ◌∷◌, ◌++◌, length, Option, Some, None, refl, sym, ap, subst, ◌∙◌, arith, append_assoc, slice_get}
+use Rattle.std.proofs.Common.{◌≡◌, ℕ, ◌+◌, ◌-◌, ◌≤◌, ◌<◌, List, [], ◌∷◌, ◌++◌, length, Option, Some, None, refl, sym, ap, subst, ◌∙◌, arith, slice_get}
 use Rattle.m68020_step.specs.declared.machine.Step.TheVariants as step
 use Rattle.m68020_step.specs.declared.registers.Why.{Why}
 use Rattle.m68020_step.specs.Step.{State, step_of}
@@ -8,7 +8,7 @@ use Rattle.orbit_monitor.specs.declared.end.Exit.{Exit}
 use Rattle.orbit_monitor.specs.declared.end.Exit.TheVariants as exit
 use Rattle.orbit_monitor.specs.declared.services.Outcome.{Outcome}
 use Rattle.orbit_monitor.specs.Services.{Served, Puts, Exits, Bad, or_bad, serve}
-use Rattle.orbit_monitor.specs.Run.{Progress, act, served, stepped, followed, further, run_from}
+use Rattle.orbit_monitor.specs.Run.{Progress, act, served, stepped, followed}
 use Rattle.orbit_monitor.specs.Answering.{Loaded, run_on, last_after, after, FailsAtPut}
 use Rattle.orbit_monitor.specs.Turn.{outcome_of, put_of, or_else, settled, FailsIn, FailsInTurn}
 use Rattle.orbit_monitor.proofs.Runs.{run_from-next, further-going, run_from-add, run_from-ended}
@@ -88,8 +88,8 @@ module _ {S : Type 0} (took : S → List ℕ → S → Type 0) where
         given = f.given;
         goes_on = ap (λ (p : Progress). p.end) acted;
         loaded =
-          ap (λ (o : Option Exit). let x : Loaded = record { names = b.names; state = s; end = o; last = b.last } in x) going
-          ∙ sym (ap (λ (p : Progress). let x : Loaded = record { names = b.names; state = p.state; end = p.end; last = b.last } in x) acted);
+            ap (λ (o : Option Exit). let x : Loaded = record { names = b.names; state = s; end = o; last = b.last } in x) going
+            ∙ sym (ap (λ (p : Progress). let x : Loaded = record { names = b.names; state = p.state; end = p.end; last = b.last } in x) acted);
       }
 
 -- so far the run has not ended, the program is loaded as the run has it, and the sink took its output
@@ -169,7 +169,7 @@ module _ {S : Type 0} (took : S → List ℕ → S → Type 0) (both : (a b c : 
         given = both x y z (run_on b m).output f.front at.given f.given;
         goes_on = turn_end b c m x y at ∙ f.goes_on;
         loaded =
-          f.loaded
-          ∙ ap (λ (l : Loaded). let r : Loaded = record { names = l.names; state = (act c.names c.state).state; end = (act c.names c.state).end; last = l.last } in r) at.loaded
-          ∙ sym (ap (λ (p : Progress). let r : Loaded = record { names = b.names; state = p.state; end = p.end; last = last_after b.last (run_on b m).output } in r) next);
+            f.loaded
+            ∙ ap (λ (l : Loaded). let r : Loaded = record { names = l.names; state = (act c.names c.state).state; end = (act c.names c.state).end; last = l.last } in r) at.loaded
+            ∙ sym (ap (λ (p : Progress). let r : Loaded = record { names = b.names; state = p.state; end = p.end; last = last_after b.last (run_on b m).output } in r) next);
       }

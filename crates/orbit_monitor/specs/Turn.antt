@@ -5,7 +5,7 @@ use Rattle.orbit_monitor.specs.declared.end.Exit.TheVariants as exit
 use Rattle.orbit_monitor.specs.declared.services.Outcome.{Outcome}
 use Rattle.orbit_monitor.specs.declared.services.Outcome.TheVariants as outcome
 use Rattle.orbit_monitor.specs.Services.{Served, Puts, Exits, Bad}
-use Rattle.orbit_monitor.specs.Run.{Progress, act}
+use Rattle.orbit_monitor.specs.Run.{act}
 use Rattle.orbit_monitor.specs.Answering.{Loaded, last_after, after, IsNamed}
 
 -- of what was put only the last byte is kept

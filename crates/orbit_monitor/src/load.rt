@@ -11,7 +11,8 @@ use m68020_step::{Machine, Sizes};
 use std::alloc::Global;
 use t_base::Memory;
 
-/// Loads an image, with this much heap and stack.
+/// Loads a copy of an image, with so many bytes of heap and stack, ready for its first instruction. Its only error is want of
+/// memory; a run takes none.
 pub fn boot(alloc: Global, image: &Image, sizes: Sizes) -> Result<Boot, Memory>
     requires code { IsTrue (is_code_length (length image.now.code.items)) }
     requires statics { IsTrue (is_statics_length (length image.now.statics.items)) }

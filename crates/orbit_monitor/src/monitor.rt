@@ -13,7 +13,7 @@ use std::marker::Model;
 use t_base::{Name, Names};
 use t_ports::ports::{Failed, Sink};
 
-/// A program in the machine, with the names of its image.
+/// A program in the machine, with the names of its image: what `boot` makes and `run` carries on.
 #[derive(Drop)]
 pub struct Boot {
     pub(crate) names: Names,
@@ -34,7 +34,7 @@ impl Model for Boot {
 }
 
 impl Boot {
-    /// The text of a symbol's name.
+    /// The text of a name of the image, as the face of a symbol has one.
     pub fn name_of(&self, n: Name) -> &[u8]
         requires { n.0 < length self.now.names }
         ensures { slice_get self.now.names n.0 ≡ Some result.now }
@@ -42,7 +42,7 @@ impl Boot {
         self.names.text(n)
     }
 
-    /// The last byte of what services since `boot` put with Ok.
+    /// The last byte of what services have put with Ok since `boot`, and None where there is no such byte.
     pub fn last_byte(&self) -> Option<u8>
         ensures { result ≡ self.now.last }
     {
@@ -93,8 +93,9 @@ fn turn<S: Sink>(boot: &mut Boot, out: &mut S) -> Result<Option<Exit>, Failed>
     }
 }
 
-/// Runs at most so many instructions. After `Steps` a second run goes on. After `Sink` it goes on behind the service whose
-/// put failed, and that service puts nothing again. After every other end it answers that end again.
+/// Runs at most so many instructions, a TRAP with its service being one. It takes no memory, and the sink gets the bytes of each
+/// service as it is met. After `Steps` a second run goes on. After `Sink` it goes on behind the service whose put failed, and
+/// that service puts nothing again. After every other end it answers that end again, and puts nothing.
 pub fn run<S: Sink>(boot: &mut Boot, steps: u64, out: &mut S) -> End
     // An answer other than Sink says how the run ended within so many instructions, and Steps that it did not.
     ensures end { IfRan result ((run_on boot.old steps).end ≡ exit_of result) }

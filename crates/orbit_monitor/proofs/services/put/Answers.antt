@@ -1,4 +1,4 @@
-use Rattle.std.proofs.Common.{◌≡◌, ℕ, sym, ap, refl, ◌∙◌, Option, Result, Ok, Err, take, drop}
+use Rattle.std.proofs.Common.{ℕ, sym, ap, refl, ◌∙◌, Option, Result, Ok, Err, take, drop}
 use Rattle.std.specs.Prelude.{OnErr}
 use Rattle.std.proofs.lemmas.List.{take-append-drop}
 use Rattle.orbit_monitor.specs.declared.services.Outcome.{Outcome}

@@ -1,4 +1,4 @@
-use Rattle.std.proofs.Common.{◌≡◌, ℕ, List, sym, subst, slice_index}
+use Rattle.std.proofs.Common.{ℕ, List, sym, subst, slice_index}
 use Rattle.orbit_monitor.specs.Faces.{face_of}
 use Rattle.orbit_monitor.specs.Services.{serve}
 use Rattle.orbit_monitor.specs.Turn.{put_of}

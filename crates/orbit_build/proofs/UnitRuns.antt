@@ -1,0 +1,216 @@
+-- The run of a unit's image keeps the unit's meaning.
+use Rattle.std.proofs.Common.{◌≡◌, ℕ, zero, suc, ◌+◌, ◌-◌, ◌*◌, ◌%◌, ◌/◌, ◌^◌, ◌≤◌, ◌<◌, Bool, true, false, List, [], ◌∷◌, ◌++◌, length, Option, Some, None, refl, sym, ap, ◌∙◌, subst, arith, append_assoc, append-nil, inl, inr, ⊎_elim}
+use Rattle.std.specs.Prelude.{replicate, option_map, slice_index}
+use Rattle.std.proofs.lemmas.Bool.{cases_lt}
+use Rattle.std.proofs.lemmas.List.{length-replicate}
+use Rattle.t_base.specs.declared.faults.Face.{Face}
+use Rattle.t_base.specs.declared.faults.Face.TheVariants as face
+use Rattle.program_runs.specs.Runs.{End, Shown, Fixnum, EmptyList, Observation, IsPrefix, IsProper}
+use Rattle.program_runs.specs.Runs as runs
+use Rattle.program_runs.specs.Keeps.{SameAnswer, KeepsWithin}
+use Rattle.program_runs.proofs.Follow.{one_end}
+use Rattle.program_runs.proofs.Prefixes.{prefix_of_eq}
+use Rattle.m68020_code.specs.declared.instr.Instr.TheVariants.{Trap}
+use Rattle.m68020_code.specs.Table.{spelling}
+use Rattle.m68020_step.specs.declared.registers.Registers.{Registers}
+use Rattle.m68020_step.specs.declared.machine.Sizes.{Sizes}
+use Rattle.m68020_step.specs.declared.storage.TheConstants.{CODE_START, HEAP_START, STACK_START}
+use Rattle.m68020_step.specs.Storage.{Regions}
+use Rattle.m68020_step.specs.Operand.{data_at, with_pc}
+use Rattle.m68020_step.specs.Step.{State}
+use Rattle.m68020_step.proofs.Executing.{IsAt}
+use Rattle.m68020_step.proofs.Rows.{trap_by}
+use Rattle.image_file.specs.Grammar.{Parts}
+use Rattle.orbit_monitor.specs.declared.end.Exit.{Exit}
+use Rattle.orbit_monitor.specs.declared.end.Exit.TheVariants as exit
+use Rattle.orbit_monitor.specs.Faces.{face_of}
+use Rattle.orbit_monitor.specs.Services.{Exits, or_bad, serve}
+use Rattle.orbit_monitor.specs.Run.{start_of, run_from, run, booted}
+use Rattle.orbit_monitor.specs.Run as monitor
+use Rattle.orbit_monitor.specs.Observed.{shown_of, end_of, heap_words, stack_words, observation_of, observed}
+use Rattle.orbit_monitor.proofs.Runs.{run-stays_by, observed-grows}
+use Rattle.t_meaning.specs.Form.{Form}
+use Rattle.t_meaning.specs.Evaluation.{Outcome, Value, Faulted, Out, Counters, Evaluation}
+use Rattle.t_meaning.specs.Meaning.{Progress, counted, continued, fresh, meaning}
+use Rattle.t_meaning.specs.Meaning as unit_meaning
+use Rattle.t_meaning.proofs.Whole.{whole, whole_run, top, meaning_whole}
+use Rattle.t_meaning.proofs.More.{more_bound_keeps}
+use Rattle.orbit_build.specs.Grammar.{most_open}
+use Rattle.orbit_build.specs.Code.{word, empty_list, load, form_code, forms_code, unit_code, statics_bytes, image_of}
+use Rattle.orbit_build.specs.Faithful.{factor, frame_words, KeepsMeaning}
+use Rattle.orbit_build.proofs.Blanks.{none_some}
+use Rattle.orbit_build.proofs.Words.{face_word}
+use Rattle.orbit_build.proofs.Runs.{Finishes, with_registers, finishes_one, finishes_on}
+use Rattle.orbit_build.proofs.Sums.{Fit, Ending}
+use Rattle.orbit_build.proofs.FormRuns.{HasFixnums, nesting, fit_kept, Comes, Loads, loads, form_comes}
+
+-- ---- forms
+
+-- forms whose literals are fixnums, with few sums open at once
+abbrev pub AreSmall : List Form → Type 0
+AreSmall [] = Unit {0}
+AreSmall (f ∷ fs) = (HasFixnums f × (nesting f ≤ most_open)) × AreSmall fs
+
+-- the word is shown so
+record Shows (w : ℕ) (last : Shown) : Type 0 where
+  it : Face
+  face_is : (m : Regions) → face_of m [] w ≡ Some it
+  shown : shown_of [] it ≡ last
+
+-- what comes of a unit, from s on, within six instructions for each evaluation and so many more
+record UnitComes (s : State) (before more : ℕ) (p : Progress) : Type 0 where
+  count : ℕ
+  few : count + 6 * before ≤ 6 * p.counters.work + more
+  how : Exit
+  finishes : Finishes s count how
+  end_is : p.end ≡ Some (end_of [] how)
+  proper : IsProper (end_of [] how)
+
+-- the end with what is in D0
+halts : (s : State) (front : List ℕ) (c : Counters) (last : Shown) → IsAt s front (spelling (Trap 0)) → Shows (data_at s.registers 0) last → UnitComes s c.work 1 (unit_meaning.reached c (Some (runs.Value last)))
+halts s front c last at shows =
+    let r : Registers = with_pc s.registers (s.registers.pc + length (spelling (Trap 0))) in
+    let service : serve [] (with_registers s r) 0 ≡ Exits (exit.Done shows.it) = ap (or_bad (λ (f : Face). Exits (exit.Done f))) (shows.face_is s.storage) in
+    let here = subst (λ l. IsAt s front l) (sym (append-nil (spelling (Trap 0)))) at in
+    record {
+      count = 1; few = omega arith; how = exit.Done shows.it;
+      finishes = finishes_one s front (Trap 0) [] r 0 (exit.Done shows.it) refl here (trap_by s.storage s.registers.pc _ 0) refl service;
+      end_is = ap (λ (x : Shown). Some (runs.Value x)) (sym shows.shown);
+      proper = tt;
+    }
+
+first_form : (s : State) (front rest : List ℕ) (c : Counters) (r : Evaluation) (more : Counters → Shown → Progress) → Fit s → Comes s 0 front rest (c.work + 1) r
+    → ((t : State) (shown : Shown) → Fit t → IsAt t front rest → Shows (data_at t.registers 0) shown → UnitComes t r.counters.work 1 (more r.counters shown))
+    → UnitComes s c.work 1 (continued r.counters r.outcome more)
+first_form s front rest c r more fit comes next = by_outcome r.outcome comes.count comes.few comes.ending
+  where
+    by_outcome : (o : Outcome) (k : ℕ) → k + 6 * (c.work + 1) ≤ 6 * r.counters.work → Ending s 0 front rest k o → UnitComes s c.work 1 (continued r.counters o more)
+    by_outcome (Value v) k few e =
+        let shows : Shows (data_at e.state.registers 0) (Fixnum v) = record { it = face.Fix v; face_is = λ m. ap (face_of m []) e.value ∙ face_word m v e.fixnum; shown = refl } in
+        let u = next e.state (Fixnum v) (fit_kept 0 s e.state fit e.kept) e.at shows in
+        record { count = k + u.count; few = omega (arith, few, u.few); how = u.how; finishes = finishes_on s e.state k u.count u.how e.passes u.finishes; end_is = u.end_is; proper = u.proper }
+    by_outcome (Faulted fault) k few e = record { count = k; few = omega (arith, few); how = exit.Fault fault; finishes = e; end_is = refl; proper = tt }
+    by_outcome Out k few e = absurd e
+
+forms_come : (fs : List Form) (c : Counters) (last : Shown) (s : State) (front : List ℕ) → AreSmall fs → Fit s → IsAt s front (forms_code fs ++ spelling (Trap 0)) → Shows (data_at s.registers 0) last → UnitComes s c.work 1 (whole_run fs c last)
+unfolding whole_run
+forms_come [] c last s front h fit at shows = halts s front c last at shows
+forms_come (f ∷ fs) c last s front h fit at shows =
+    let here = subst (λ l. IsAt s front l) (append_assoc (form_code 0 f) (forms_code fs) (spelling (Trap 0))) at in
+    first_form s (front ++ form_code 0 f) (forms_code fs ++ spelling (Trap 0)) c (whole 1 f (counted c)) (λ t shown. whole_run fs t shown) fit
+      (form_comes f 0 1 (counted c) s front _ h.0.0 (omega (arith, h.0.1)) fit here)
+      (λ t shown fit2 at2 shows2. forms_come fs (whole 1 f (counted c)).counters shown t _ h.1 fit2 at2 shows2)
+
+-- ---- from boot on
+
+boot_fits : (unit : List Form) (sizes : Sizes) → Fit (booted (image_of unit) sizes)
+boot_fits unit sizes = record { registers = refl; statics = length-replicate {A = ℕ} statics_bytes 0 }
+
+boot_is_at : (unit : List Form) (sizes : Sizes) → length (unit_code unit) ≤ 2 ^ 28 → IsAt (booted (image_of unit) sizes) [] (unit_code unit)
+boot_is_at unit sizes small = record { code = refl; pc = omega arith; even = refl; small = small }
+
+unit_comes : (unit : List Form) (sizes : Sizes) → AreSmall unit → length (unit_code unit) ≤ 2 ^ 28 → UnitComes (booted (image_of unit) sizes) 0 2 (whole_run unit fresh EmptyList)
+unit_comes unit sizes h small =
+    let s = booted (image_of unit) sizes in
+    let l = loads s [] (forms_code unit ++ spelling (Trap 0)) empty_list (omega arith) (boot_fits unit sizes) (boot_is_at unit sizes small) in
+    let shows : Shows (data_at l.state.registers 0) EmptyList = record { it = face.Nil; face_is = λ m. ap (face_of m []) l.value; shown = refl } in
+    let u = forms_come unit fresh EmptyList l.state _ h (fit_kept 0 s l.state (boot_fits unit sizes) (l.kept 0)) l.at shows in
+    record { count = 1 + u.count; few = omega (arith, u.few); how = u.how; finishes = finishes_on s l.state 1 u.count u.how l.passes u.finishes; end_is = u.end_is; proper = u.proper }
+
+-- ---- what is seen of it
+
+prefix_of_nothing : (p : List ℕ) → IsPrefix p [] → p ≡ []
+prefix_of_nothing [] h = refl
+prefix_of_nothing (b ∷ bs) h = cc
+
+module _ (unit : List Form) (sizes : Sizes) (h : AreSmall unit) (small : length (unit_code unit) ≤ 2 ^ 28) where
+  comes : UnitComes (booted (image_of unit) sizes) 0 2 (whole_run unit fresh EmptyList)
+  comes = unit_comes unit sizes h small
+
+  abbrev b : ℕ → Observation
+  b k = observed (image_of unit) sizes k
+
+  at_end : run (image_of unit) sizes comes.count ≡ record { state = comes.finishes.state; output = []; end = Some comes.how; instructions = comes.count }
+  at_end = comes.finishes.by
+
+  -- where it has ended, it is as at the end
+  end_of_run : (k : ℕ) (how : Exit) → (run (image_of unit) sizes k).end ≡ Some how → b k ≡ b comes.count
+  end_of_run k how e = ap (observation_of [] sizes) (⊎_elim
+    (λ lt. sym (run-stays_by (image_of unit) sizes k comes.count how e (omega arith)))
+    (λ ge. run-stays_by (image_of unit) sizes comes.count k comes.how (ap (λ (p : monitor.Progress). p.end) at_end) ge)
+    (cases_lt k comes.count))
+
+  seen_end : (b comes.count).end ≡ Some (end_of [] comes.how)
+  seen_end = ap (λ (p : monitor.Progress). option_map (end_of []) p.end) at_end
+
+  seen_output : (b comes.count).output ≡ []
+  seen_output = ap (λ (p : monitor.Progress). p.output) at_end
+
+  -- behind the end and before it nothing was put, and heap and stack are as at boot
+  record Quiet (k : ℕ) : Type 0 where
+    output : (b k).output ≡ []
+    heap : (b k).heap ≡ 0
+
+  words_of : (a : List ℕ) → a ≡ (booted (image_of unit) sizes).registers.a → (slice_index a 4 - HEAP_START) / 4 ≡ 0
+  words_of a e = ap (λ (l : List ℕ). (slice_index l 4 - HEAP_START) / 4) e
+
+  quiet_to : (k : ℕ) → k ≤ comes.count → Quiet k
+  quiet_to k le =
+      let same : k + (comes.count - k) ≡ comes.count = omega arith in
+      let grows : IsPrefix (b k).output (b comes.count).output = subst (λ n. IsPrefix (b k).output (b n).output) same (observed-grows (image_of unit) sizes k (comes.count - k)) in
+      record {
+        output = prefix_of_nothing (b k).output (subst (λ l. IsPrefix (b k).output l) seen_output grows);
+        heap = words_of (run (image_of unit) sizes k).state.registers.a (comes.finishes.still k le);
+      }
+
+  quiet : (k : ℕ) → Quiet k
+  quiet k = ⊎_elim
+    (λ lt. quiet_to k (omega arith))
+    (λ ge.
+      let e = ap (observation_of [] sizes) (run-stays_by (image_of unit) sizes comes.count k comes.how (ap (λ (p : monitor.Progress). p.end) at_end) ge) in
+      let q = quiet_to comes.count (omega arith) in
+      let x : Quiet k = record { output = ap (λ (o : Observation). o.output) e ∙ q.output; heap = ap (λ (o : Observation). o.heap) e ∙ q.heap } in x)
+    (cases_lt k comes.count)
+
+  -- the end of the unit
+  meant_end : (meaning unit (top unit)).end ≡ Some (end_of [] comes.how)
+  meant_end = ap (λ (o : Observation). o.end) (meaning_whole unit) ∙ comes.end_is
+
+  meant : (m : ℕ) (e : End) → (meaning unit m).end ≡ Some e → meaning unit m ≡ meaning unit (top unit)
+  meant m e q = one_end (meaning unit) (more_bound_keeps unit) (top unit) m (end_of [] comes.how) e meant_end q
+
+  record Exited (k : ℕ) (e : End) : Type 0 where
+    how : Exit
+    ended : (run (image_of unit) sizes k).end ≡ Some how
+
+  exited : (k : ℕ) (e : End) → (b k).end ≡ Some e → Exited k e
+  exited k e q = by_end (run (image_of unit) sizes k).end refl
+    where
+      by_end : (o : Option Exit) → (run (image_of unit) sizes k).end ≡ o → Exited k e
+      by_end (Some how) x = record { how = how; ended = x }
+      by_end None x = absurd (none_some e (sym (ap (option_map (end_of [])) x) ∙ q))
+
+  same_of : (e d : End) → Some e ≡ Some d → e ≡ d
+  same_of e d q = cc
+
+  pub keeps_within : (frame : ℕ) → KeepsWithin frame factor (meaning unit) (observed (image_of unit) sizes)
+  keeps_within frame = record {
+    ends_only = λ k e q.
+      let x = exited k e q in
+      let same = end_of_run k x.how x.ended in
+      let is : end_of [] comes.how ≡ e = same_of _ _ (sym seen_end ∙ sym (ap (λ (o : Observation). o.end) same) ∙ q) in
+      inl (subst IsProper is comes.proper, (top unit, record { ended = meant_end ∙ ap (λ (d : End). Some d) is; output = sym (quiet k).output }));
+    ends = λ m e q.
+      let same = meant m e q in
+      let is : Some (end_of [] comes.how) ≡ Some e = sym meant_end ∙ sym (ap (λ (o : Observation). o.end) same) ∙ q in
+      let work : (meaning unit m).moves ≡ (whole_run unit fresh EmptyList).counters.work = ap (λ (o : Observation). o.moves) (same ∙ meaning_whole unit) in
+      let moves : (b comes.count).moves ≡ comes.count = ap (λ (p : monitor.Progress). p.instructions) at_end in
+      (comes.count, inl (seen_end ∙ is, seen_output), omega (arith, work, moves, comes.few));
+    shows = λ m. (0, inl ([], refl), omega arith);
+    shows_only = λ k. (0, prefix_of_eq (b k).output [] (quiet k).output);
+    heap = λ k. (0, let q = (quiet k).heap in omega (arith, q));
+    waiting = λ k. (0, omega arith);
+  }
+
+pub keeps_meaning : (unit : List Form) → AreSmall unit → length (unit_code unit) ≤ 2 ^ 28 → KeepsMeaning unit (image_of unit)
+keeps_meaning unit h small sizes heap stack = keeps_within unit sizes h small (frame_words unit)

@@ -1,0 +1,4 @@
+pub mod Grammar
+pub mod Code
+pub mod Reading
+pub mod Faithful

@@ -1,0 +1,4 @@
+pub mod Form
+pub mod Evaluation
+pub mod Meaning
+pub mod Laws
