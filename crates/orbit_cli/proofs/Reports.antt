@@ -66,8 +66,8 @@ module _ {S E : Type 0} (took : S → List ℕ → S → Type 0) (both : (a b c 
         put ++ f.front,
         f.rest ++ (split.0 ++ line),
         ap (λ (l : List ℕ). l ++ line) split.1
-        ∙ ap (λ (l : List ℕ). ((put ++ l) ++ split.0) ++ line) f.due
-        ∙ regroup put f.front f.rest split.0 line,
+            ∙ ap (λ (l : List ℕ). ((put ++ l) ++ split.0) ++ line) f.due
+            ∙ regroup put f.front f.rest split.0 line,
         f.given,
       )
 
@@ -96,10 +96,10 @@ module _ {S E : Type 0} (took : S → List ℕ → S → Type 0) (both : (a b c 
         noted = f.noted;
       })
       (λ (a : IsHalted took line (change mid mid_faults new new_faults) err ended).
-        answered b steps end (change old old_faults new new_faults) err ended same
-        (subst (λ (l : List ℕ). took old ((run_on b steps).output ++ l) new) (sym line_is) (both old mid new (run_on b steps).output line t a.printed))
-        (λ quiet. subst (λ (l : List ℕ). said err.old l err.new) (sym silent_is) (subst (λ (e : E). said err.old [] e) (sym a.silent) (nothing err.old)))
-        (done_is ∙ sym a.status_is))
+      answered b steps end (change old old_faults new new_faults) err ended same
+      (subst (λ (l : List ℕ). took old ((run_on b steps).output ++ l) new) (sym line_is) (both old mid new (run_on b steps).output line t a.printed))
+      (λ quiet. subst (λ (l : List ℕ). said err.old l err.new) (sym silent_is) (subst (λ (e : E). said err.old [] e) (sym a.silent) (nothing err.old)))
+      (done_is ∙ sym a.status_is))
       h
     where
       out_is : (run_on b steps).output ++ line ≡ (answer_on b steps).out

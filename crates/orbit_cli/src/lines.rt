@@ -18,13 +18,7 @@ fn end_of_line<'a>(last: Option<u8>) -> &'a [u8]
 {
     match last {
         None => b"",
-        Some(byte) => {
-            if byte == b'\n' {
-                b""
-            } else {
-                b"\n"
-            }
-        }
+        Some(byte) => { if byte == b'\n' { b"" } else { b"\n" } }
     }
 }
 
@@ -38,11 +32,7 @@ pub fn put_value<S: Sink>(sink: &mut S, last: Option<u8>, text: &[u8]) -> Result
 }
 
 /// The same of a number.
-pub fn put_number_value<S: Sink>(
-    sink: &mut S,
-    last: Option<u8>,
-    number: i32,
-) -> Result<(), Failed>
+pub fn put_number_value<S: Sink>(sink: &mut S, last: Option<u8>, number: i32) -> Result<(), Failed>
     ensures ok { OnOk result (S.took sink.old (value_line last (signed_decimal number)) sink.new) }
     ensures part { OnErr result (TookFront S.took sink.old (value_line last (signed_decimal number)) sink.new) }
     ensures cause { HasCause (S.faults sink.old) (S.faults sink.new) result }
@@ -67,11 +57,7 @@ fn put_unnamed_value<S: Sink>(sink: &mut S, last: Option<u8>, code: u8) -> Resul
 }
 
 /// The same of a character.
-pub fn put_character_value<S: Sink>(
-    sink: &mut S,
-    last: Option<u8>,
-    code: u8,
-) -> Result<(), Failed>
+pub fn put_character_value<S: Sink>(sink: &mut S, last: Option<u8>, code: u8) -> Result<(), Failed>
     ensures ok { OnOk result (S.took sink.old (value_line last (character_text code)) sink.new) }
     ensures part { OnErr result (TookFront S.took sink.old (value_line last (character_text code)) sink.new) }
     ensures cause { HasCause (S.faults sink.old) (S.faults sink.new) result }
@@ -156,7 +142,14 @@ pub fn put_full<S: Sink>(sink: &mut S, stack: bool, asked: u32, left: u32) -> Re
     let left = left_text.format(left).as_bytes();
     put_all(
         sink,
-        &[region(stack), b" full: asked ", asked, b" left ", left, b"\n"],
+        &[
+            region(stack),
+            b" full: asked ",
+            asked,
+            b" left ",
+            left,
+            b"\n",
+        ],
     )
 }
 
@@ -217,7 +210,13 @@ pub fn put_stop<S: Sink>(sink: &mut S, why: Why, at: u32) -> Result<(), Failed>
 {
     put_all(
         sink,
-        &[b"machine stop ", name_of_stop(why), b" at ", &digits_of(at), b"\n"],
+        &[
+            b"machine stop ",
+            name_of_stop(why),
+            b" at ",
+            &digits_of(at),
+            b"\n",
+        ],
     )
 }
 

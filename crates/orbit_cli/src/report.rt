@@ -78,12 +78,7 @@ fn status_of_full(stack: bool) -> Status
 }
 
 /// Runs a loaded program for at most so many instructions, and reports how it ended.
-pub fn finish<S: Sink, E: Sink>(
-    boot: &mut Boot,
-    steps: u64,
-    out: &mut S,
-    err: &mut E,
-) -> Status
+pub fn finish<S: Sink, E: Sink>(boot: &mut Boot, steps: u64, out: &mut S, err: &mut E) -> Status
     ensures { IsReported S.took E.took boot.old steps (change out.old (S.faults out.old) out.new (S.faults out.new)) (change err.old (E.faults err.old) err.new (E.faults err.new)) result }
 {
     match run(boot, steps, out) {

@@ -20,7 +20,9 @@ fn misused<E: Sink>(err: &mut E) -> Status
     ensures status { result ≡ Status.Usage }
     ensures noted { Notes E.took (change err.old (E.faults err.old) err.new (E.faults err.new)) usage_line }
 {
-    let _ = err.put(b"usage: orbit compile SRC IMG | run IMG HEAP STACK STEPS | go SRC IMG HEAP STACK STEPS | check SRC | list IMG | trial N STEPS\n");
+    let _ = err.put(
+        b"usage: orbit compile SRC IMG | run IMG HEAP STACK STEPS | go SRC IMG HEAP STACK STEPS | check SRC | list IMG | trial N STEPS\n",
+    );
     Status::Usage
 }
 

@@ -37,7 +37,7 @@ module _ {S : Type 0} (took : S → List ℕ → S → Type 0) (both : (a b c : 
         text_of (take i xs) ++ take k piece,
         drop k piece ++ text_of (drop (i + 1) xs),
         text_of-split xs i d within
-        ∙ ap (λ (l : List ℕ). (text_of (take i xs) ++ l) ++ text_of (drop (i + 1) xs)) (sym (take-append-drop k piece))
-        ∙ regroup (text_of (take i xs)) (take k piece) (drop k piece) (text_of (drop (i + 1) xs)),
+            ∙ ap (λ (l : List ℕ). (text_of (take i xs) ++ l) ++ text_of (drop (i + 1) xs)) (sym (take-append-drop k piece))
+            ∙ regroup (text_of (take i xs)) (take k piece) (drop k piece) (text_of (drop (i + 1) xs)),
         both a b c (text_of (take i xs)) (take k piece) t u,
       )
