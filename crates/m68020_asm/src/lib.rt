@@ -1,0 +1,14 @@
+//! From instructions with labels to code of the MC68020, each branch with the smallest displacement that reaches its label.
+//! `assemble` starts with the smallest widths and widens what does not reach, in sweeps over the items, until all fit.
+//! The run of a list of items is defined here too: the assembled bytes run as the items do.
+#![tactic(auto)]
+
+mod assembler;
+mod emit;
+mod item;
+mod labels;
+mod sizes;
+mod sweeps;
+
+pub use assembler::assemble;
+pub use item::{Code, Item};
