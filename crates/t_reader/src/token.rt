@@ -14,6 +14,7 @@ pub enum Atom {
     Sym,
 }
 
+/// What a token is.
 #[derive(Clone, Copy)]
 pub enum Word {
     Open,
@@ -27,6 +28,7 @@ pub enum Word {
     End,
 }
 
+/// A token, and where it stands in the text.
 #[derive(Clone, Copy)]
 pub struct Token {
     pub word: Word,
