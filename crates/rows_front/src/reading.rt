@@ -3,7 +3,7 @@
 use std::alloc::Global;
 use std::test::Fail;
 use t_base::{Memory, Name, Names, Span};
-use t_reader::{read_unit, Datum, ReadFault, ReadKind, Unit};
+use t_reader::{Datum, ReadFault, ReadKind, Unit, read_unit};
 
 /// The bytes of a source that are read at most.
 const MOST: usize = 1 << 20;
@@ -75,7 +75,12 @@ fn faults_at_each_place(rt: HostRuntime) -> Result<(), Fail> {
         (b"(a . ')".as_slice(), ReadKind::ExtraClose, 6, 7),
         (b"+536870912".as_slice(), ReadKind::FixnumRange, 0, 10),
         (b"-536870913".as_slice(), ReadKind::FixnumRange, 0, 10),
-        (b"99999999999999999999".as_slice(), ReadKind::FixnumRange, 0, 20),
+        (
+            b"99999999999999999999".as_slice(),
+            ReadKind::FixnumRange,
+            0,
+            20,
+        ),
         (b"#true".as_slice(), ReadKind::BadHash, 0, 1),
         (b"#\\spaces".as_slice(), ReadKind::BadHash, 0, 1),
         (b"#\\\0".as_slice(), ReadKind::BadHash, 0, 1),
@@ -88,13 +93,25 @@ fn faults_at_each_place(rt: HostRuntime) -> Result<(), Fail> {
         (deep.as_slice(), ReadKind::TooDeep, 400, 401),
         (marks.as_slice(), ReadKind::TooDeep, 400, 401),
     ] {
-        for front in [b"".as_slice(), b"; (\n".as_slice(), b"(a . b) 'c \"d\" ".as_slice()] {
-            for back in [b"".as_slice(), b"\n".as_slice(), b" e ; )".as_slice(), b" [".as_slice()] {
+        for front in [
+            b"".as_slice(),
+            b"; (\n".as_slice(),
+            b"(a . b) 'c \"d\" ".as_slice(),
+        ] {
+            for back in [
+                b"".as_slice(),
+                b"\n".as_slice(),
+                b" e ; )".as_slice(),
+                b" [".as_slice(),
+            ] {
                 let text = joined(alloc, &[front, bad, back])?;
                 let at = front.len() as u32;
                 let lists = kind == ReadKind::Unclosed && back == b" [".as_slice();
                 if !lists {
-                    assert_eq!(rt; fault_of(alloc, text.as_slice())?, Some((kind, at + start, at + end)));
+                    assert_eq!(rt;
+                        fault_of(alloc, text.as_slice())?,
+                        Some((kind, at.wrapping_add(start), at.wrapping_add(end)))
+                    );
                 }
             }
         }
@@ -144,10 +161,22 @@ fn ends_and_depths(rt: HostRuntime) -> Result<(), Fail> {
     let open = repeated(alloc, b'(', 400)?;
     let close = repeated(alloc, b')', 400)?;
     let marks = repeated(alloc, b'\'', 400)?;
-    let lists = joined(alloc, &[open.as_slice(), close.as_slice(), open.as_slice(), b"a", close.as_slice()])?;
+    let lists = joined(
+        alloc,
+        &[
+            open.as_slice(),
+            close.as_slice(),
+            open.as_slice(),
+            b"a",
+            close.as_slice(),
+        ],
+    )?;
     assert_eq!(rt; fault_of(alloc, lists.as_slice())?, None);
     let quotes = joined(alloc, &[marks.as_slice(), b"a", marks.as_slice(), b"()"])?;
-    assert_eq!(rt; fault_of(alloc, quotes.as_slice())?, Some((ReadKind::TooDeep, 801, 802)));
+    assert_eq!(rt;
+        fault_of(alloc, quotes.as_slice())?,
+        Some((ReadKind::TooDeep, 801, 802))
+    );
     Ok(())
 }
 
@@ -173,7 +202,12 @@ fn push_span(alloc: Global, out: &mut Vec<u8>, span: Span) -> Result<(), Memory>
 }
 
 /// The datum, which begins a pair or stands alone.
-fn push_datum(alloc: Global, out: &mut Vec<u8>, names: &Names, datum: &Datum) -> Result<(), Memory> {
+fn push_datum(
+    alloc: Global,
+    out: &mut Vec<u8>,
+    names: &Names,
+    datum: &Datum,
+) -> Result<(), Memory> {
     match datum {
         Datum::Fix(n) => push_number(alloc, out, i64::from(*n))?,
         Datum::Char(c) => {
@@ -241,14 +275,38 @@ fn data_of_texts(rt: HostRuntime) -> Result<(), Fail> {
     for (text, data) in [
         (b"".as_slice(), b"".as_slice()),
         (b" \t\r\n; \0\xFF (\n;".as_slice(), b"".as_slice()),
-        (b"() nil nIL #f #F #t #T".as_slice(), b"nil nil nil nil nil true true ".as_slice()),
-        (b"+07 -0 536870911 -536870912 000000000001".as_slice(), b"7 0 536870911 -536870912 1 ".as_slice()),
-        (b"1+ -1+ + - 1.5 .. a.b --1 +-1".as_slice(), b"1+ -1+ + - 1.5 .. a.b --1 +-1 ".as_slice()),
-        (b"#\\a #\\Z #\\( #\\; #\\\" #\\\\ #\\# #\\SPACE #\\newline #\\Tab #\\.".as_slice(), b"#97 #90 #40 #59 #34 #92 #35 #32 #10 #9 #46 ".as_slice()),
-        (b"12#t a\"b\"c 'D(e)f".as_slice(), b"12 true a \"b\" c [ quote [ d nil ] ] [ e nil ] f ".as_slice()),
-        (b"\"a\\\"\\\\ \t\n;'\"".as_slice(), b"\"a\"\\ \t\n;'\" ".as_slice()),
-        (b"(a . (B . (c)))(d e . f)".as_slice(), b"[ a [ b [ c nil ] ] ] [ d [ e f ] ] ".as_slice()),
-        (b"(LET* ((x? 1)) <=>!$%&*/:@^_~)".as_slice(), b"[ let* [ [ [ x? [ 1 nil ] ] nil ] [ <=>!$%&*/:@^_~ nil ] ] ] ".as_slice()),
+        (
+            b"() nil nIL #f #F #t #T".as_slice(),
+            b"nil nil nil nil nil true true ".as_slice(),
+        ),
+        (
+            b"+07 -0 536870911 -536870912 000000000001".as_slice(),
+            b"7 0 536870911 -536870912 1 ".as_slice(),
+        ),
+        (
+            b"1+ -1+ + - 1.5 .. a.b --1 +-1".as_slice(),
+            b"1+ -1+ + - 1.5 .. a.b --1 +-1 ".as_slice(),
+        ),
+        (
+            b"#\\a #\\Z #\\( #\\; #\\\" #\\\\ #\\# #\\SPACE #\\newline #\\Tab #\\.".as_slice(),
+            b"#97 #90 #40 #59 #34 #92 #35 #32 #10 #9 #46 ".as_slice(),
+        ),
+        (
+            b"12#t a\"b\"c 'D(e)f".as_slice(),
+            b"12 true a \"b\" c [ quote [ d nil ] ] [ e nil ] f ".as_slice(),
+        ),
+        (
+            b"\"a\\\"\\\\ \t\n;'\"".as_slice(),
+            b"\"a\"\\ \t\n;'\" ".as_slice(),
+        ),
+        (
+            b"(a . (B . (c)))(d e . f)".as_slice(),
+            b"[ a [ b [ c nil ] ] ] [ d [ e f ] ] ".as_slice(),
+        ),
+        (
+            b"(LET* ((x? 1)) <=>!$%&*/:@^_~)".as_slice(),
+            b"[ let* [ [ [ x? [ 1 nil ] ] nil ] [ <=>!$%&*/:@^_~ nil ] ] ] ".as_slice(),
+        ),
     ] {
         let found = data_of(alloc, text, false)?;
         assert_eq!(rt; found.as_slice(), data);
@@ -260,10 +318,22 @@ fn data_of_texts(rt: HostRuntime) -> Result<(), Fail> {
 fn spans_of_data(rt: HostRuntime) -> Result<(), Fail> {
     let alloc = rt.alloc();
     for (text, data) in [
-        (b"(a . 'b)".as_slice(), b"0-8:[ 1-2:a 5-7:[ 5-6:quote 5-7:[ 6-7:b 5-7:nil ] ] ] ".as_slice()),
-        (b" (1 (x)) \"q\"".as_slice(), b"1-8:[ 2-3:1 1-8:[ 4-7:[ 5-6:x 4-7:nil ] 1-8:nil ] ] 9-12:\"q\" ".as_slice()),
-        (b"'() #\\space".as_slice(), b"0-3:[ 0-1:quote 0-3:[ 1-3:nil 0-3:nil ] ] 4-11:#32 ".as_slice()),
-        (b"'\n'a".as_slice(), b"0-4:[ 0-1:quote 0-4:[ 2-4:[ 2-3:quote 2-4:[ 3-4:a 2-4:nil ] ] 0-4:nil ] ] ".as_slice()),
+        (
+            b"(a . 'b)".as_slice(),
+            b"0-8:[ 1-2:a 5-7:[ 5-6:quote 5-7:[ 6-7:b 5-7:nil ] ] ] ".as_slice(),
+        ),
+        (
+            b" (1 (x)) \"q\"".as_slice(),
+            b"1-8:[ 2-3:1 1-8:[ 4-7:[ 5-6:x 4-7:nil ] 1-8:nil ] ] 9-12:\"q\" ".as_slice(),
+        ),
+        (
+            b"'() #\\space".as_slice(),
+            b"0-3:[ 0-1:quote 0-3:[ 1-3:nil 0-3:nil ] ] 4-11:#32 ".as_slice(),
+        ),
+        (
+            b"'\n'a".as_slice(),
+            b"0-4:[ 0-1:quote 0-4:[ 2-4:[ 2-3:quote 2-4:[ 3-4:a 2-4:nil ] ] 0-4:nil ] ] ".as_slice(),
+        ),
     ] {
         let found = data_of(alloc, text, true)?;
         assert_eq!(rt; found.as_slice(), data);
@@ -290,7 +360,10 @@ fn names_in_first_seen_order(rt: HostRuntime) -> Result<(), Fail> {
     let alloc = rt.alloc();
     for (text, names) in [
         (b"".as_slice(), b"setter contents set-contents ".as_slice()),
-        (b"car setter Foo 'foo quote BAR (foo . Contents) nil #t".as_slice(), b"setter contents set-contents car foo quote bar ".as_slice()),
+        (
+            b"car setter Foo 'foo quote BAR (foo . Contents) nil #t".as_slice(),
+            b"setter contents set-contents car foo quote bar ".as_slice(),
+        ),
     ] {
         let found = names_of(alloc, text)?;
         assert_eq!(rt; found.as_slice(), names);
