@@ -1,0 +1,51 @@
+//! A call of the program, and what is seen of it.
+
+use orbit_cli::{Status, orbit};
+use std::alloc::Global;
+use std::process::Abort;
+use std::test::Fail;
+use t_ports::memory::{MemFolder, MemSink};
+use t_ports::ports::Folder;
+
+/// A text that is compiled and run, and what is expected.
+#[derive(Clone, Copy)]
+pub struct Row {
+    pub text: &'static [u8],
+    pub steps: &'static str,
+    pub out: &'static [u8],
+    pub err: &'static [u8],
+    pub status: Status,
+}
+
+pub fn words_of(alloc: Global, words: &[&str]) -> Result<Vec<String>, Fail> {
+    let mut all = Vec::new(alloc);
+    for word in words {
+        all.push(String::from_str(alloc, word)?)?;
+    }
+    Ok(all)
+}
+
+/// A sink with ample room.
+pub fn sink(alloc: Global) -> Result<MemSink, Fail> {
+    Ok(MemSink::new(alloc, 1000, Vec::new(alloc))?)
+}
+
+/// Whether the folder holds an image under the name that the rows give it.
+pub fn has_image(alloc: Global, folder: &mut MemFolder) -> bool {
+    folder.fetch(alloc, "a.img", 1 << 29).is_ok()
+}
+
+/// Compiles and runs the text of a row with heap 64 and stack 64.
+pub fn check(rt: &impl Abort, alloc: Global, row: Row, kept: bool) -> Result<(), Fail> {
+    let mut folder = MemFolder::new(alloc, Vec::new(alloc));
+    folder.add("a.t", row.text)?;
+    let mut out = sink(alloc)?;
+    let mut err = sink(alloc)?;
+    let words = words_of(alloc, &["go", "a.t", "a.img", "64", "64", row.steps])?;
+    let status = orbit(alloc, &words, &mut folder, &mut out, &mut err);
+    assert_eq!(rt; out.bytes(), row.out);
+    assert_eq!(rt; err.bytes(), row.err);
+    assert_eq!(rt; status, row.status);
+    assert_eq!(rt; has_image(alloc, &mut folder), kept);
+    Ok(())
+}

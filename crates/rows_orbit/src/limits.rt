@@ -1,0 +1,86 @@
+//! Texts at the limits: open parentheses, literals and sums of a form, bytes.
+
+use crate::calls::{sink, words_of};
+use orbit_cli::{Status, orbit};
+use std::alloc::Global;
+use std::process::Abort;
+use std::test::Fail;
+use t_ports::memory::MemFolder;
+
+/// Puts a form of so many sums, each the first operand of the next one and the others 1.
+fn put_sums(text: &mut Vec<u8>, sums: usize) -> Result<(), Fail> {
+    for _ in 0..sums {
+        text.extend_from_slice(b"(+ ")?;
+    }
+    text.extend_from_slice(b"1")?;
+    for _ in 0..sums {
+        text.extend_from_slice(b" 1)")?;
+    }
+    Ok(())
+}
+
+fn check(
+    rt: &impl Abort,
+    alloc: Global,
+    text: &[u8],
+    out_text: &[u8],
+    status: Status,
+) -> Result<(), Fail> {
+    let mut folder = MemFolder::new(alloc, Vec::new(alloc));
+    folder.add("a.t", text)?;
+    let mut out = sink(alloc)?;
+    let mut err = sink(alloc)?;
+    let words = words_of(alloc, &["go", "a.t", "a.img", "64", "64", "10000000"])?;
+    assert_eq!(rt;
+        orbit(alloc, &words, &mut folder, &mut out, &mut err),
+        status
+    );
+    assert_eq!(rt; out.bytes(), out_text);
+    Ok(())
+}
+
+#[test]
+fn four_hundred_open_parentheses(rt: HostRuntime) -> Result<(), Fail> {
+    let alloc = rt.alloc();
+    let mut most = Vec::new(alloc);
+    put_sums(&mut most, 400)?;
+    check(&rt, alloc, &most, b"value 401\n", Status::Done)?;
+    let mut over = Vec::new(alloc);
+    put_sums(&mut over, 401)?;
+    check(&rt, alloc, &over, b"", Status::Unbuilt)
+}
+
+/// A form of three rows of sums: two sums more than the rows have.
+fn put_three(text: &mut Vec<u8>, first: usize, second: usize, third: usize) -> Result<(), Fail> {
+    text.extend_from_slice(b"(+ ")?;
+    put_sums(text, first)?;
+    text.extend_from_slice(b"(+ ")?;
+    put_sums(text, second)?;
+    text.extend_from_slice(b" ")?;
+    put_sums(text, third)?;
+    text.extend_from_slice(b"))")?;
+    Ok(())
+}
+
+#[test]
+fn a_form_of_two_thousand_literals_and_sums(rt: HostRuntime) -> Result<(), Fail> {
+    let alloc = rt.alloc();
+    // A form has one literal more than it has sums: 999 sums make 1,999 of both, and 1,000 make 2,001.
+    let mut most = Vec::new(alloc);
+    put_three(&mut most, 332, 332, 333)?;
+    check(&rt, alloc, &most, b"value 1000\n", Status::Done)?;
+    let mut over = Vec::new(alloc);
+    put_three(&mut over, 332, 333, 333)?;
+    check(&rt, alloc, &over, b"", Status::Unbuilt)
+}
+
+#[test]
+fn a_text_of_the_most_bytes(rt: HostRuntime) -> Result<(), Fail> {
+    let alloc = rt.alloc();
+    let mut text = Vec::new(alloc);
+    for _ in 0..0x2_0000 {
+        text.extend_from_slice(b"(+ 1 2)\n")?;
+    }
+    assert_eq!(rt; text.len(), 0x10_0000);
+    check(&rt, alloc, &text, b"value 3\n", Status::Done)
+}
