@@ -1,6 +1,6 @@
 -- Blanks and atoms at the front of a text.
 use Rattle.std.proofs.Common.{◌≡◌, ℕ, zero, suc, ◌+◌, ◌-◌, ◌*◌, ◌^◌, ◌<◌, ◌≤◌, Bool, true, false, List, [], ◌∷◌, ◌++◌, length, Option, Some, None, refl, sym, ap, ◌∙◌, subst, arith, le_trans, inl, inr, ◌⊎◌, ◌≢◌}
-use Rattle.std.specs.Prelude.{if◌then◌else◌, ◌==◌, ◌||◌, ◌&&◌, nat_le, nat_lt, ℤ, pos, negsuc, neg_ℤ}
+use Rattle.std.specs.Prelude.{if◌then◌else◌, ◌==◌, ◌||◌, ◌&&◌, nat_le, nat_lt, ℤ, pos, neg_ℤ}
 use Rattle.std.proofs.lemmas.Bool.Decides.{nat_tests, eqb_tells}
 use Rattle.std.proofs.lemmas.Bool.{and_parts, le-leb, leb-true, eqb-true}
 use Rattle.t_meaning.specs.Form.{is_fixnum}
@@ -150,7 +150,8 @@ literal_here negative d t r n fits e =
     let rest_is : d.rest ≡ r.rest = ap (λ (x : Read). x.rest) g.same in
     let value_is : with_sign negative d.value ≡ number negative n.run = ap (with_sign negative) n.value_is in
     record {
-      negative = negative; run = n.run;
+      negative = negative;
+      run = n.run;
       numeral = record { some = let x = n.some in omega arith; few = let x = n.few in omega arith; decimal = n.are; fixnum = subst (λ z. is_fixnum z ≡ true) value_is fits };
       text_is = ap (λ (l : List ℕ). sign negative ++ l) (n.text_is ∙ ap (λ (l : List ℕ). n.run ++ l) rest_is);
       read_is = sym g.same ∙ ap (λ (z : ℤ). literal z d.rest) value_is ∙ ap (literal (number negative n.run)) rest_is;
@@ -233,7 +234,8 @@ plus_takes (b ∷ bs) first e =
     let k = skip_parts bs in
     let bs_is : bs ≡ k.blanks ++ first = k.text_is ∙ ap (λ (l : List ℕ). k.blanks ++ l) g.same in
     record {
-      blanks = k.blanks; are = k.are;
+      blanks = k.blanks;
+      are = k.are;
       text_is = ap (λ (c : ℕ). c ∷ bs) (eqb-true b 43 p.0) ∙ ap (λ (l : List ℕ). 43 ∷ l) bs_is;
       ends = subst (λ l. ends_atom l ≡ true) bs_is p.1;
     }

@@ -1,31 +1,26 @@
 -- The code of a form does what the form means.
-use Rattle.std.proofs.Common.{◌≡◌, ◌≢◌, ℕ, zero, suc, ◌+◌, ◌-◌, ◌*◌, ◌%◌, ◌^◌, ◌≤◌, ◌<◌, Bool, true, false, List, [], ◌∷◌, ◌++◌, length, Option, Some, None, refl, sym, ap, ◌∙◌, subst, arith, append_assoc, append-nil, inl, inr, ◌⊎◌, le_trans}
-use Rattle.std.specs.Prelude.{ℤ, pos, ◌+ℤ◌, if◌then◌else◌, nat_lt, max}
+use Rattle.std.proofs.Common.{◌≡◌, ℕ, suc, ◌+◌, ◌*◌, ◌^◌, ◌≤◌, ◌<◌, Bool, true, false, List, [], ◌++◌, length, Some, refl, sym, ap, ◌∙◌, subst, arith, append_assoc, append-nil, inl}
+use Rattle.std.specs.Prelude.{ℤ, ◌+ℤ◌, if◌then◌else◌, max}
 use Rattle.std.proofs.Math.Nat.{le-max_left, le-max_right}
 use Rattle.std.proofs.lemmas.Bool.{lt-ltb}
-use Rattle.std.proofs.lemmas.List.{length-append, get_or-set_same, length-set}
-use Rattle.t_base.specs.declared.faults.Fault.{Fault}
+use Rattle.std.proofs.lemmas.List.{get_or-set_same, length-set}
 use Rattle.t_base.specs.declared.faults.Fault.TheVariants.{FixnumOverflow}
-use Rattle.m68020_code.specs.declared.instr.Ea.TheVariants.{D, Abs, Imm}
-use Rattle.m68020_code.specs.declared.instr.Instr.{Instr}
 use Rattle.m68020_code.specs.Table.{is_row, spelling}
 use Rattle.m68020_step.specs.declared.registers.Registers.{Registers}
-use Rattle.m68020_step.specs.declared.storage.TheConstants.{CODE_START, STATICS_START}
-use Rattle.m68020_step.specs.Storage.{Regions, long_at, can_write, with_long}
+use Rattle.m68020_step.specs.Storage.{long_at, can_write}
 use Rattle.m68020_step.specs.ConditionCodes.{flags_of_result}
 use Rattle.m68020_step.specs.Operand.{data_at, with_data, with_flags, with_pc}
 use Rattle.m68020_step.specs.Step.{State}
 use Rattle.m68020_step.proofs.Executing.{IsAt, past}
 use Rattle.m68020_step.proofs.Memory.{long_written, long_kept, can_write_statics, code_kept, shape_kept}
 use Rattle.m68020_step.proofs.Rows.{move_immediate, move_to_storage}
-use Rattle.orbit_monitor.specs.declared.end.Exit.TheVariants as exit
 use Rattle.t_meaning.specs.Form.{Form, Literal, Sum, is_fixnum}
 use Rattle.t_meaning.specs.Evaluation.{Outcome, Value, Faulted, Out, Counters, Evaluation, entered, gives, passed, with_value, sum_of}
 use Rattle.t_meaning.proofs.Whole.{whole}
 use Rattle.orbit_build.specs.Grammar.{most_open}
-use Rattle.orbit_build.specs.Code.{word, slot, statics_bytes, load, save, add_saved, bytes_of, form_code}
+use Rattle.orbit_build.specs.Code.{word, slot, load, save, add_saved, bytes_of, form_code}
 use Rattle.orbit_build.proofs.Words.{word_fits}
-use Rattle.orbit_build.proofs.Runs.{Passes, Finishes, with_registers, with_written, passes_one, passes_writing, passes_both, finishes_on}
+use Rattle.orbit_build.proofs.Runs.{Passes, with_registers, with_written, passes_one, passes_writing, passes_both, finishes_on}
 use Rattle.orbit_build.proofs.Sums.{Fit, Kept, Gives, Ending, fetch, add, branch_over, load_seven, raise, sum_given, sum_faulted}
 
 -- its literals are fixnums
@@ -185,7 +180,7 @@ sum_comes s front rest depth code_a code_b c r second fit low first more = by_ou
         let q = second r.counters in
         let w = second_comes e.state (front ++ code_a) rest depth code_b r.counters.work x q e.fixnum fit2 low e.at e.value more in
         let end_ = subst (λ l. Ending s depth l rest (k + w.0) (passed q.counters q.outcome (λ u y. gives u (sum_of x y))).outcome) (joined front code_a (spelling (save depth)) code_b (bytes_of (add_saved depth)))
-            (ending_on s e.state depth _ rest k w.0 _ e.passes e.kept w.1.1) in
+        (ending_on s e.state depth _ rest k w.0 _ e.passes e.kept w.1.1) in
         record { count = k + w.0; few = omega (arith, few, w.1.0, kept_work q x); ending = end_ }
     by_outcome (Faulted fault) k few e = record { count = k; few = omega (arith, few); ending = e }
     by_outcome Out k few e = absurd e
@@ -201,8 +196,8 @@ form_comes (Sum a b) depth e c s front rest h le fit at =
     let lb = le-max_right (nesting a) (nesting b) in
     let here = subst (λ l. IsAt s front l) (grouped (form_code depth a) (spelling (save depth)) (form_code (depth + 1) b) (bytes_of (add_saved depth)) rest) at in
     sum_comes s front rest depth (form_code depth a) (form_code (depth + 1) b) c.work (whole (e + 1) a (entered e c)) (λ t. whole (e + 1) b t) fit (omega (arith, le))
-      (form_comes a depth (e + 1) (entered e c) s front _ h.0 (omega (arith, le, la)) fit here)
-      (λ t fit2 at2. form_comes b (depth + 1) (e + 1) (whole (e + 1) a (entered e c)).counters t _ _ h.1 (omega (arith, le, lb)) fit2 at2)
+    (form_comes a depth (e + 1) (entered e c) s front _ h.0 (omega (arith, le, la)) fit here)
+    (λ t fit2 at2. form_comes b (depth + 1) (e + 1) (whole (e + 1) a (entered e c)).counters t _ _ h.1 (omega (arith, le, lb)) fit2 at2)
   where
     grouped : (f g b h r : List ℕ) → (f ++ (g ++ (b ++ h))) ++ r ≡ f ++ (g ++ (b ++ (h ++ r)))
     grouped f g b h r = simp append_assoc

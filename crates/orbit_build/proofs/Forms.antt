@@ -1,15 +1,12 @@
 -- What is read is written so, and what is written is read so.
-use Rattle.std.proofs.Common.{◌≡◌, ℕ, zero, suc, ◌+◌, ◌-◌, ◌<◌, ◌≤◌, Bool, true, false, List, [], ◌∷◌, ◌++◌, length, Option, Some, None, refl, sym, ap, ◌∙◌, subst, arith, le_trans, append-nil}
-use Rattle.std.specs.Prelude.{if◌then◌else◌, ◌==◌, ◌||◌, nat_le}
-use Rattle.std.specs.Option.{option_map}
-use Rattle.std.proofs.lemmas.Bool.{le-leb, leb-true}
+use Rattle.std.proofs.Common.{◌≡◌, ℕ, zero, suc, ◌-◌, Bool, true, false, List, [], ◌∷◌, ◌++◌, Option, Some, None, refl, sym, ap, ◌∙◌, subst, arith}
+use Rattle.std.specs.Prelude.{if◌then◌else◌, ◌==◌}
 use Rattle.std.proofs.lemmas.Bool.Decides.{nat_tests}
-use Rattle.std.proofs.lemmas.List.{length-append}
-use Rattle.t_meaning.specs.Form.{Form, Literal, Sum}
-use Rattle.orbit_build.specs.Grammar.{is_blank, is_digit, AreBlanks, AreDigits, Syntax, Numeral, Addition, sign, written, number, IsNumeral, is_atom, IsApart, IsForm, nodes, form_of, Text, Last, Then, text_of, most_open, most_nodes, AreForms, unit_of, Spells}
-use Rattle.orbit_build.specs.Reading.{Read, ◌>>=◌, skipped, ends_atom, literal, literal_at, open_at, plus_at, close_at, sum_of, closed_behind, second_behind, first_behind, sum_at, sum_or, form_at, small_form_at, forms_within, forms_of}
+use Rattle.t_meaning.specs.Form.{Form, Sum}
+use Rattle.orbit_build.specs.Grammar.{is_blank, is_digit, AreBlanks, Syntax, Numeral, Addition, sign, written, IsNumeral, is_atom, IsApart, IsForm, nodes, form_of}
+use Rattle.orbit_build.specs.Reading.{Read, skipped, ends_atom, literal_at, open_at, plus_at, close_at, sum_of, closed_behind, second_behind, first_behind, sum_at, sum_or, form_at}
 use Rattle.orbit_build.proofs.Steps.{form_is_literal, form_is_sum, sum_read}
-use Rattle.orbit_build.proofs.Blanks.{none_some, Went, went, Given, given_parts, Skips, skip_parts, skip_again, length_skipped, blanks_end, digit_no_end, Literals, literal_takes, literal_again, open_takes, close_takes, Plus, plus_takes, plus_again}
+use Rattle.orbit_build.proofs.Blanks.{none_some, went, skip_parts, skip_again, blanks_end, digit_no_end, Literals, literal_takes, literal_again, open_takes, close_takes, plus_takes, plus_again}
 
 -- ---- where a form starts
 
@@ -94,15 +91,19 @@ sum_taken room inner r more e =
     let second : w1.it.rest ≡ k1.blanks ++ written b.it (k2.blanks ++ (41 ∷ r.rest)) = k1.text_is ∙ ap (λ (l : List ℕ). k1.blanks ++ l) (b.text_is ∙ ap (written b.it) behind) in
     let first : w0.it ≡ written a.it (k1.blanks ++ written b.it (k2.blanks ++ (41 ∷ r.rest))) = a.text_is ∙ ap (written a.it) second in
     let all : inner ≡ k0.blanks ++ (43 ∷ (p.blanks ++ written a.it (k1.blanks ++ written b.it (k2.blanks ++ (41 ∷ r.rest))))) =
-        k0.text_is ∙ ap (λ (l : List ℕ). k0.blanks ++ l) (p.text_is ∙ ap (λ (l : List ℕ). 43 ∷ (p.blanks ++ l)) first) in
+    k0.text_is ∙ ap (λ (l : List ℕ). k0.blanks ++ l) (p.text_is ∙ ap (λ (l : List ℕ). 43 ∷ (p.blanks ++ l)) first) in
     let same : room ≡ suc room - 1 = omega arith in
     record {
       it = Addition k0.blanks p.blanks a.it k1.blanks b.it k2.blanks;
-      form = (omega arith,
+      form = (
+        omega arith,
         (k0.are, p.are, k1.are, k2.are),
-        (apart_takes room a.it true p.blanks _ a.form (λ e. subst (λ l. ends_atom (p.blanks ++ l) ≡ true) first p.ends),
-          apart_takes room b.it (is_atom a.it) k1.blanks _ b.form (λ e. subst (λ l. ends_atom l ≡ true) second (a.ends e))),
-        (subst (λ n. IsForm n a.it) same a.form, subst (λ n. IsForm n b.it) same b.form));
+        (
+          apart_takes room a.it true p.blanks _ a.form (λ e. subst (λ l. ends_atom (p.blanks ++ l) ≡ true) first p.ends),
+          apart_takes room b.it (is_atom a.it) k1.blanks _ b.form (λ e. subst (λ l. ends_atom l ≡ true) second (a.ends e)),
+        ),
+        (subst (λ n. IsForm n a.it) same a.form, subst (λ n. IsForm n b.it) same b.form),
+      );
       text_is = ap (λ (l : List ℕ). 40 ∷ l) all;
       form_is = sym (ap (λ (x : Read). x.form) read_is) ∙ ap (λ (f : Form). Sum f w2.it.form) a.form_is ∙ ap (λ (f : Form). Sum (form_of a.it) f) b.form_is;
       nodes_are = let n = ap (λ (x : Read). x.nodes) read_is in omega (arith, n, a.nodes_are, b.nodes_are);
@@ -145,9 +146,9 @@ form_again room (Addition opened added first between second closing) rest h e =
     let y = between ++ written second z in
     let x = added ++ written first y in
     let plus : plus_at (skipped (opened ++ (43 ∷ x))) ≡ Some (written first y) =
-        ap plus_at (skip_again opened (43 ∷ x) h.1.0) ∙ plus_again x (apart_again first added y h.1.1 h.2.0) ∙ ap (λ (l : List ℕ). Some l) (skip_again added (written first y) h.1.1 ∙ starts (room - 1) first y h.3.0) in
+    ap plus_at (skip_again opened (43 ∷ x) h.1.0) ∙ plus_again x (apart_again first added y h.1.1 h.2.0) ∙ ap (λ (l : List ℕ). Some l) (skip_again added (written first y) h.1.1 ∙ starts (room - 1) first y h.3.0) in
     let a = form_again (room - 1) first y h.3.0 (apart_for second (is_atom first) between z h.1.2 h.2.1) in
     let b : form_at (room - 1) (skipped y) ≡ Some (read_of second z) =
-        ap (form_at (room - 1)) (skip_again between (written second z) h.1.2 ∙ starts (room - 1) second z h.3.1) ∙ form_again (room - 1) second z h.3.1 (λ s. closing_ends closing rest h.1.3) in
+    ap (form_at (room - 1)) (skip_again between (written second z) h.1.2 ∙ starts (room - 1) second z h.3.1) ∙ form_again (room - 1) second z h.3.1 (λ s. closing_ends closing rest h.1.3) in
     let close : Some rest ≡ close_at (skipped z) = sym (ap close_at (skip_again closing (41 ∷ rest) h.1.3)) in
     form_is_sum room _ (opened ++ (43 ∷ x)) h.0 refl ∙ sum_read (form_at (room - 1)) (opened ++ (43 ∷ x)) (written first y) (sym plus) (read_of first y) a (read_of second z) b rest close

@@ -1,6 +1,6 @@
 -- The code of a built text is short enough for an image.
-use Rattle.std.proofs.Common.{◌≡◌, ℕ, zero, suc, ◌+◌, ◌-◌, ◌*◌, ◌%◌, ◌^◌, ◌≤◌, ◌<◌, Bool, true, false, List, [], ◌∷◌, ◌++◌, length, refl, sym, ap, ◌∙◌, subst, arith, le_trans}
-use Rattle.std.specs.Prelude.{replicate, max}
+use Rattle.std.proofs.Common.{◌≡◌, ℕ, ◌+◌, ◌-◌, ◌*◌, ◌%◌, ◌^◌, ◌≤◌, Bool, true, false, List, [], ◌∷◌, ◌++◌, length, refl, sym, ap, subst, arith}
+use Rattle.std.specs.Prelude.{max}
 use Rattle.std.proofs.Math.Nat.{max-le}
 use Rattle.std.proofs.lemmas.List.{length-append, length-replicate}
 use Rattle.m68020_code.specs.declared.instr.Instr.{Instr}
@@ -8,8 +8,8 @@ use Rattle.m68020_code.specs.declared.instr.Instr.TheVariants.{Trap}
 use Rattle.m68020_code.specs.Table.{spelling}
 use Rattle.m68020_code.proofs.Lengths.{spelling_words}
 use Rattle.image_file.specs.Grammar.{IsImage}
-use Rattle.t_meaning.specs.Form.{Form, Literal, Sum}
-use Rattle.orbit_build.specs.Grammar.{Syntax, Numeral, Addition, sign, written, number, IsForm, nodes, form_of, Text, Last, Then, text_of, most_open, AreForms, unit_of, Spells}
+use Rattle.t_meaning.specs.Form.{Form}
+use Rattle.orbit_build.specs.Grammar.{Syntax, Numeral, Addition, written, number, IsForm, nodes, form_of, Text, Last, Then, text_of, most_open, AreForms, unit_of, Spells}
 use Rattle.orbit_build.specs.Code.{word, empty_list, load, save, add_saved, bytes_of, form_code, forms_code, unit_code, statics_bytes, image_of}
 use Rattle.orbit_build.proofs.FormRuns.{HasFixnums, nesting}
 use Rattle.orbit_build.proofs.UnitRuns.{AreSmall}

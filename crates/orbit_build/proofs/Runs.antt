@@ -1,22 +1,19 @@
 -- The machine runs through code: what is kept on the way, and how runs join.
-use Rattle.std.proofs.Common.{◌≡◌, ℕ, zero, suc, ◌+◌, ◌-◌, ◌*◌, ◌≤◌, ◌<◌, Bool, true, false, List, [], ◌∷◌, ◌++◌, length, Option, Some, None, refl, sym, ap, ◌∙◌, subst, arith, ⊎_elim, append_assoc}
+use Rattle.std.proofs.Common.{◌≡◌, ℕ, zero, suc, ◌+◌, ◌-◌, ◌≤◌, true, List, [], ◌++◌, length, Some, refl, sym, ap, ◌∙◌, arith, ⊎_elim}
 use Rattle.std.proofs.lemmas.Bool.{cases_lt}
-use Rattle.t_base.specs.declared.faults.Fault.{Fault}
 use Rattle.m68020_code.specs.declared.instr.Instr.{Instr}
 use Rattle.m68020_code.specs.Table.{is_row, spelling}
 use Rattle.m68020_step.specs.declared.registers.Registers.{Registers}
 use Rattle.m68020_step.specs.declared.registers.Effect.TheVariants.{Nothing, WriteLong, Service}
-use Rattle.m68020_step.specs.declared.machine.Step.{Step}
 use Rattle.m68020_step.specs.declared.machine.Step.TheVariants as step
-use Rattle.m68020_step.specs.Storage.{Regions, long_at, with_long}
+use Rattle.m68020_step.specs.Storage.{with_long}
 use Rattle.m68020_step.specs.Operand.{next, with_pc}
 use Rattle.m68020_step.specs.Step.{State, executed, step_of, after}
-use Rattle.m68020_step.proofs.Executing.{IsAt, step_at, past}
+use Rattle.m68020_step.proofs.Executing.{IsAt, step_at}
 use Rattle.orbit_monitor.specs.declared.end.Exit.{Exit}
-use Rattle.orbit_monitor.specs.declared.end.Exit.TheVariants as exit
 use Rattle.orbit_monitor.specs.Services.{Exits, serve}
 use Rattle.orbit_monitor.specs.Run.{Progress, start_of, act, stepped, served, followed, run_from}
-use Rattle.orbit_monitor.proofs.Goes.{going_to, Goes, goes-nowhere, goes-on, goes-one, goes-both}
+use Rattle.orbit_monitor.proofs.Goes.{going_to, Goes, goes-on, goes-one, goes-both}
 
 -- The address registers are the same throughout the first k instructions.
 abbrev pub Still : State → ℕ → Type 0
@@ -39,13 +36,13 @@ passes_a s t k p = sym (ap (λ (x : Progress). x.state.registers.a) p.goes.by) �
 -- on from t
 still_on : (s t : State) (j k : ℕ) → Passes s j t → Still t k → Still s (j + k)
 still_on s t j k p still i le = ⊎_elim
-  (λ lt. p.still i (omega arith))
-  (λ ge.
+    (λ lt. p.still i (omega arith))
+    (λ ge.
     let e : i ≡ j + (i - j) = omega arith in
     ap (λ (n : ℕ). (run_from [] (start_of s) n).state.registers.a) e
     ∙ ap (λ (x : Progress). x.state.registers.a) (goes-on [] s t [] j (i - j) p.goes)
     ∙ still (i - j) (omega arith) ∙ passes_a s t j p)
-  (cases_lt i j)
+    (cases_lt i j)
 
 pub passes_both : (s t u : State) (j k : ℕ) → Passes s j t → Passes t k u → Passes s (j + k) u
 passes_both s t u j k p q = record { goes = goes-both [] s t u [] [] j k p.goes q.goes; still = still_on s t j k p q.still }

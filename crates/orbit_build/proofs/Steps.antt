@@ -1,8 +1,8 @@
 -- The steps of reading a form.
-use Rattle.std.proofs.Common.{◌≡◌, ℕ, zero, suc, ◌+◌, ◌-◌, ◌<◌, List, ◌++◌, Option, Some, None, refl, sym, ap, ◌∙◌, append_assoc, arith}
-use Rattle.orbit_build.specs.Code.{form_code, save, add_saved, bytes_of}
+use Rattle.std.proofs.Common.{◌≡◌, ℕ, zero, suc, ◌-◌, ◌<◌, List, ◌++◌, Option, Some, None, sym, ap, ◌∙◌, append_assoc, arith}
+use Rattle.orbit_build.specs.Code.{save, add_saved, bytes_of}
 use Rattle.m68020_code.specs.Table.{spelling}
-use Rattle.orbit_build.specs.Reading.{Read, ◌>>=◌, skipped, literal_at, plus_at, close_at, sum_of, closed_behind, second_behind, first_behind, sum_at, open_at, sum_or, form_at, ReadsAs}
+use Rattle.orbit_build.specs.Reading.{Read, ◌>>=◌, skipped, literal_at, plus_at, close_at, sum_of, closed_behind, second_behind, first_behind, sum_at, open_at, sum_or, form_at}
 
 pub form_is_literal : (room : ℕ) (text : List ℕ) → None ≡ open_at text → form_at room text ≡ literal_at text
 unfolding form_at

@@ -1,32 +1,30 @@
 -- The last part of a sum: what was kept is added to what is in D0.
-use Rattle.std.proofs.Common.{◌≡◌, ◌≢◌, ℕ, zero, suc, ◌+◌, ◌-◌, ◌*◌, ◌%◌, ◌^◌, ◌≤◌, ◌<◌, Bool, true, false, List, [], ◌∷◌, ◌++◌, length, Option, Some, None, refl, sym, ap, ◌∙◌, subst, arith, append_assoc}
-use Rattle.std.specs.Prelude.{ℤ, pos, ◌+ℤ◌, not, if◌then◌else◌, nat_lt}
+use Rattle.std.proofs.Common.{◌≡◌, ℕ, ◌+◌, ◌^◌, ◌≤◌, ◌<◌, Bool, true, false, List, [], ◌++◌, length, Some, refl, ap, ◌∙◌, arith}
+use Rattle.std.specs.Prelude.{ℤ, pos, ◌+ℤ◌, not, if◌then◌else◌}
 use Rattle.std.proofs.lemmas.Bool.{lt-ltb}
 use Rattle.std.proofs.lemmas.List.{length-append, get_or-set_same, get_or-set_other}
 use Rattle.std.proofs.Math.ListN.{length-set}
 use Rattle.t_base.specs.declared.faults.Fault.TheVariants.{FixnumOverflow}
-use Rattle.m68020_code.specs.declared.instr.Ea.TheVariants.{D, Abs, Imm}
+use Rattle.m68020_code.specs.declared.instr.Ea.TheVariants.{D, Abs}
 use Rattle.m68020_code.specs.declared.instr.Cond.TheVariants.{Vc}
 use Rattle.m68020_code.specs.declared.instr.Width.TheVariants.{Byte}
 use Rattle.m68020_code.specs.declared.instr.Instr.{Instr}
 use Rattle.m68020_code.specs.declared.instr.Instr.TheVariants.{MoveL, Moveq, AddL, Bcc, Trap}
 use Rattle.m68020_code.specs.Table.{is_row, spelling}
 use Rattle.m68020_step.specs.declared.registers.Registers.{Registers}
-use Rattle.m68020_step.specs.declared.registers.Next.{Next}
 use Rattle.m68020_step.specs.declared.registers.Effect.TheVariants.{Nothing}
-use Rattle.m68020_step.specs.declared.storage.TheConstants.{CODE_START, STATICS_START}
-use Rattle.m68020_step.specs.Storage.{Regions, long_at}
+use Rattle.m68020_step.specs.declared.storage.TheConstants.{CODE_START}
+use Rattle.m68020_step.specs.Storage.{long_at}
 use Rattle.m68020_step.specs.Word.{sum_of, signed, unsigned, overflows}
-use Rattle.m68020_step.specs.ConditionCodes.{flags_of_result, flags_of_sum, holds}
+use Rattle.m68020_step.specs.ConditionCodes.{flags_of_result, flags_of_sum}
 use Rattle.m68020_step.specs.Operand.{next, data_at, with_data, with_flags, with_pc}
 use Rattle.m68020_step.specs.Step.{State, executed}
 use Rattle.m68020_step.proofs.Executing.{IsAt, past}
 use Rattle.m68020_step.proofs.Rows.{move_from_storage, add_registers, branch_by, move_quick_to, trap_by}
 use Rattle.orbit_monitor.specs.declared.end.Exit.TheVariants as exit
-use Rattle.orbit_monitor.specs.Services.{Served, Exits, serve, raise_fault}
+use Rattle.orbit_monitor.specs.Services.{Exits, serve, raise_fault}
 use Rattle.t_meaning.specs.Form.{is_fixnum}
 use Rattle.t_meaning.specs.Evaluation.{Outcome, Value, Faulted, Out}
-use Rattle.t_meaning.specs.Evaluation as evaluation
 use Rattle.orbit_build.specs.Grammar.{most_open}
 use Rattle.orbit_build.specs.Code.{word, slot, statics_bytes}
 use Rattle.orbit_build.proofs.Words.{sum_fits, sum_overflows, sum_word}

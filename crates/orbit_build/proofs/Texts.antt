@@ -1,14 +1,14 @@
 -- A text is built exactly where its forms are read.
-use Rattle.std.proofs.Common.{◌≡◌, ℕ, zero, suc, ◌+◌, ◌-◌, ◌<◌, ◌≤◌, Bool, true, false, List, [], ◌∷◌, ◌++◌, length, Option, Some, None, refl, sym, ap, ◌∙◌, subst, arith, le_trans, append-nil, append_assoc}
+use Rattle.std.proofs.Common.{◌≡◌, ℕ, zero, suc, ◌+◌, ◌-◌, ◌<◌, ◌≤◌, Bool, true, false, List, [], ◌∷◌, ◌++◌, length, Option, Some, None, refl, sym, ap, ◌∙◌, subst, arith, append-nil, append_assoc}
 use Rattle.std.specs.Prelude.{if◌then◌else◌, nat_le}
 use Rattle.std.specs.Option.{option_map}
 use Rattle.std.proofs.lemmas.Bool.{le-leb, lt-leb, leb-true}
 use Rattle.std.proofs.lemmas.List.{length-append}
 use Rattle.t_meaning.specs.Form.{Form}
-use Rattle.orbit_build.specs.Grammar.{is_blank, AreBlanks, Syntax, Numeral, Addition, sign, written, is_atom, IsApart, IsForm, nodes, form_of, Text, Last, Then, text_of, most_open, most_nodes, AreForms, unit_of, Spells}
+use Rattle.orbit_build.specs.Grammar.{AreBlanks, Syntax, Numeral, Addition, written, is_atom, IsForm, nodes, form_of, Text, Last, Then, text_of, most_open, most_nodes, AreForms, unit_of, Spells}
 use Rattle.orbit_build.specs.Reading.{Read, ◌>>=◌, skipped, ends_atom, form_at, small_form_at, forms_within, forms_at, forms_of, BuiltAs}
 use Rattle.orbit_build.specs.Code.{form_code, forms_code}
-use Rattle.orbit_build.proofs.Blanks.{none_some, Went, went, Given, given_parts, Skips, skip_parts, skip_again, length_skipped, blanks_end}
+use Rattle.orbit_build.proofs.Blanks.{none_some, went, given_parts, skip_parts, skip_again, length_skipped, blanks_end}
 use Rattle.orbit_build.proofs.Forms.{both, starts, apart_takes, apart_for, Taken, form_takes, read_of, form_again}
 
 -- ---- one form
@@ -168,7 +168,7 @@ same_within (suc n) m (b ∷ bs) le le' =
     let t = b ∷ bs in
     forms_one (suc n) t (omega arith) le
     ∙ by_form (small_form_at t) refl (λ r e. let s = form_shortens t r e in let k = length_skipped r.rest in let down : suc n - 1 ≡ n = omega arith in
-        ap (λ (i : ℕ). forms_within i (skipped r.rest)) down ∙ same_within n (m - 1) (skipped r.rest) (omega arith) (omega arith))
+    ap (λ (i : ℕ). forms_within i (skipped r.rest)) down ∙ same_within n (m - 1) (skipped r.rest) (omega arith) (omega arith))
     ∙ sym (forms_one m t (omega arith) le')
   where
     by_form : (o : Option Read) → small_form_at (b ∷ bs) ≡ o → ((r : Read) → small_form_at (b ∷ bs) ≡ Some r → forms_within (suc n - 1) (skipped r.rest) ≡ forms_within (m - 1) (skipped r.rest))

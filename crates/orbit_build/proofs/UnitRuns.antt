@@ -1,33 +1,32 @@
 -- The run of a unit's image keeps the unit's meaning.
-use Rattle.std.proofs.Common.{◌≡◌, ℕ, zero, suc, ◌+◌, ◌-◌, ◌*◌, ◌%◌, ◌/◌, ◌^◌, ◌≤◌, ◌<◌, Bool, true, false, List, [], ◌∷◌, ◌++◌, length, Option, Some, None, refl, sym, ap, ◌∙◌, subst, arith, append_assoc, append-nil, inl, inr, ⊎_elim}
-use Rattle.std.specs.Prelude.{replicate, option_map, slice_index}
+use Rattle.std.proofs.Common.{◌≡◌, ℕ, ◌+◌, ◌-◌, ◌*◌, ◌/◌, ◌^◌, ◌≤◌, List, [], ◌∷◌, ◌++◌, length, Option, Some, None, refl, sym, ap, ◌∙◌, subst, arith, append_assoc, append-nil, inl, ⊎_elim}
+use Rattle.std.specs.Prelude.{option_map, slice_index}
 use Rattle.std.proofs.lemmas.Bool.{cases_lt}
 use Rattle.std.proofs.lemmas.List.{length-replicate}
 use Rattle.t_base.specs.declared.faults.Face.{Face}
 use Rattle.t_base.specs.declared.faults.Face.TheVariants as face
 use Rattle.program_runs.specs.Runs.{End, Shown, Fixnum, EmptyList, Observation, IsPrefix, IsProper}
 use Rattle.program_runs.specs.Runs as runs
-use Rattle.program_runs.specs.Keeps.{SameAnswer, KeepsWithin}
+use Rattle.program_runs.specs.Keeps.{KeepsWithin}
 use Rattle.program_runs.proofs.Follow.{one_end}
 use Rattle.program_runs.proofs.Prefixes.{prefix_of_eq}
 use Rattle.m68020_code.specs.declared.instr.Instr.TheVariants.{Trap}
 use Rattle.m68020_code.specs.Table.{spelling}
 use Rattle.m68020_step.specs.declared.registers.Registers.{Registers}
 use Rattle.m68020_step.specs.declared.machine.Sizes.{Sizes}
-use Rattle.m68020_step.specs.declared.storage.TheConstants.{CODE_START, HEAP_START, STACK_START}
+use Rattle.m68020_step.specs.declared.storage.TheConstants.{HEAP_START}
 use Rattle.m68020_step.specs.Storage.{Regions}
 use Rattle.m68020_step.specs.Operand.{data_at, with_pc}
 use Rattle.m68020_step.specs.Step.{State}
 use Rattle.m68020_step.proofs.Executing.{IsAt}
 use Rattle.m68020_step.proofs.Rows.{trap_by}
-use Rattle.image_file.specs.Grammar.{Parts}
 use Rattle.orbit_monitor.specs.declared.end.Exit.{Exit}
 use Rattle.orbit_monitor.specs.declared.end.Exit.TheVariants as exit
 use Rattle.orbit_monitor.specs.Faces.{face_of}
 use Rattle.orbit_monitor.specs.Services.{Exits, or_bad, serve}
 use Rattle.orbit_monitor.specs.Run.{start_of, run_from, run, booted}
 use Rattle.orbit_monitor.specs.Run as monitor
-use Rattle.orbit_monitor.specs.Observed.{shown_of, end_of, heap_words, stack_words, observation_of, observed}
+use Rattle.orbit_monitor.specs.Observed.{shown_of, end_of, observation_of, observed}
 use Rattle.orbit_monitor.proofs.Runs.{run-stays_by, observed-grows}
 use Rattle.t_meaning.specs.Form.{Form}
 use Rattle.t_meaning.specs.Evaluation.{Outcome, Value, Faulted, Out, Counters, Evaluation}
@@ -36,13 +35,13 @@ use Rattle.t_meaning.specs.Meaning as unit_meaning
 use Rattle.t_meaning.proofs.Whole.{whole, whole_run, top, meaning_whole}
 use Rattle.t_meaning.proofs.More.{more_bound_keeps}
 use Rattle.orbit_build.specs.Grammar.{most_open}
-use Rattle.orbit_build.specs.Code.{word, empty_list, load, form_code, forms_code, unit_code, statics_bytes, image_of}
+use Rattle.orbit_build.specs.Code.{empty_list, form_code, forms_code, unit_code, statics_bytes, image_of}
 use Rattle.orbit_build.specs.Faithful.{factor, frame_words, KeepsMeaning}
 use Rattle.orbit_build.proofs.Blanks.{none_some}
 use Rattle.orbit_build.proofs.Words.{face_word}
 use Rattle.orbit_build.proofs.Runs.{Finishes, with_registers, finishes_one, finishes_on}
 use Rattle.orbit_build.proofs.Sums.{Fit, Ending}
-use Rattle.orbit_build.proofs.FormRuns.{HasFixnums, nesting, fit_kept, Comes, Loads, loads, form_comes}
+use Rattle.orbit_build.proofs.FormRuns.{HasFixnums, nesting, fit_kept, Comes, loads, form_comes}
 
 -- ---- forms
 
@@ -73,7 +72,9 @@ halts s front c last at shows =
     let service : serve [] (with_registers s r) 0 ≡ Exits (exit.Done shows.it) = ap (or_bad (λ (f : Face). Exits (exit.Done f))) (shows.face_is s.storage) in
     let here = subst (λ l. IsAt s front l) (sym (append-nil (spelling (Trap 0)))) at in
     record {
-      count = 1; few = omega arith; how = exit.Done shows.it;
+      count = 1;
+      few = omega arith;
+      how = exit.Done shows.it;
       finishes = finishes_one s front (Trap 0) [] r 0 (exit.Done shows.it) refl here (trap_by s.storage s.registers.pc _ 0) refl service;
       end_is = ap (λ (x : Shown). Some (runs.Value x)) (sym shows.shown);
       proper = tt;
@@ -98,8 +99,8 @@ forms_come [] c last s front h fit at shows = halts s front c last at shows
 forms_come (f ∷ fs) c last s front h fit at shows =
     let here = subst (λ l. IsAt s front l) (append_assoc (form_code 0 f) (forms_code fs) (spelling (Trap 0))) at in
     first_form s (front ++ form_code 0 f) (forms_code fs ++ spelling (Trap 0)) c (whole 1 f (counted c)) (λ t shown. whole_run fs t shown) fit
-      (form_comes f 0 1 (counted c) s front _ h.0.0 (omega (arith, h.0.1)) fit here)
-      (λ t shown fit2 at2 shows2. forms_come fs (whole 1 f (counted c)).counters shown t _ h.1 fit2 at2 shows2)
+    (form_comes f 0 1 (counted c) s front _ h.0.0 (omega (arith, h.0.1)) fit here)
+    (λ t shown fit2 at2 shows2. forms_come fs (whole 1 f (counted c)).counters shown t _ h.1 fit2 at2 shows2)
 
 -- ---- from boot on
 
@@ -136,9 +137,9 @@ module _ (unit : List Form) (sizes : Sizes) (h : AreSmall unit) (small : length 
   -- where it has ended, it is as at the end
   end_of_run : (k : ℕ) (how : Exit) → (run (image_of unit) sizes k).end ≡ Some how → b k ≡ b comes.count
   end_of_run k how e = ap (observation_of [] sizes) (⊎_elim
-    (λ lt. sym (run-stays_by (image_of unit) sizes k comes.count how e (omega arith)))
-    (λ ge. run-stays_by (image_of unit) sizes comes.count k comes.how (ap (λ (p : monitor.Progress). p.end) at_end) ge)
-    (cases_lt k comes.count))
+      (λ lt. sym (run-stays_by (image_of unit) sizes k comes.count how e (omega arith)))
+      (λ ge. run-stays_by (image_of unit) sizes comes.count k comes.how (ap (λ (p : monitor.Progress). p.end) at_end) ge)
+      (cases_lt k comes.count))
 
   seen_end : (b comes.count).end ≡ Some (end_of [] comes.how)
   seen_end = ap (λ (p : monitor.Progress). option_map (end_of []) p.end) at_end
@@ -165,12 +166,12 @@ module _ (unit : List Form) (sizes : Sizes) (h : AreSmall unit) (small : length 
 
   quiet : (k : ℕ) → Quiet k
   quiet k = ⊎_elim
-    (λ lt. quiet_to k (omega arith))
-    (λ ge.
+      (λ lt. quiet_to k (omega arith))
+      (λ ge.
       let e = ap (observation_of [] sizes) (run-stays_by (image_of unit) sizes comes.count k comes.how (ap (λ (p : monitor.Progress). p.end) at_end) ge) in
       let q = quiet_to comes.count (omega arith) in
       let x : Quiet k = record { output = ap (λ (o : Observation). o.output) e ∙ q.output; heap = ap (λ (o : Observation). o.heap) e ∙ q.heap } in x)
-    (cases_lt k comes.count)
+      (cases_lt k comes.count)
 
   -- the end of the unit
   meant_end : (meaning unit (top unit)).end ≡ Some (end_of [] comes.how)
@@ -196,16 +197,16 @@ module _ (unit : List Form) (sizes : Sizes) (h : AreSmall unit) (small : length 
   pub keeps_within : (frame : ℕ) → KeepsWithin frame factor (meaning unit) (observed (image_of unit) sizes)
   keeps_within frame = record {
     ends_only = λ k e q.
-      let x = exited k e q in
-      let same = end_of_run k x.how x.ended in
-      let is : end_of [] comes.how ≡ e = same_of _ _ (sym seen_end ∙ sym (ap (λ (o : Observation). o.end) same) ∙ q) in
-      inl (subst IsProper is comes.proper, (top unit, record { ended = meant_end ∙ ap (λ (d : End). Some d) is; output = sym (quiet k).output }));
+        let x = exited k e q in
+        let same = end_of_run k x.how x.ended in
+        let is : end_of [] comes.how ≡ e = same_of _ _ (sym seen_end ∙ sym (ap (λ (o : Observation). o.end) same) ∙ q) in
+        inl (subst IsProper is comes.proper, (top unit, record { ended = meant_end ∙ ap (λ (d : End). Some d) is; output = sym (quiet k).output }));
     ends = λ m e q.
-      let same = meant m e q in
-      let is : Some (end_of [] comes.how) ≡ Some e = sym meant_end ∙ sym (ap (λ (o : Observation). o.end) same) ∙ q in
-      let work : (meaning unit m).moves ≡ (whole_run unit fresh EmptyList).counters.work = ap (λ (o : Observation). o.moves) (same ∙ meaning_whole unit) in
-      let moves : (b comes.count).moves ≡ comes.count = ap (λ (p : monitor.Progress). p.instructions) at_end in
-      (comes.count, inl (seen_end ∙ is, seen_output), omega (arith, work, moves, comes.few));
+        let same = meant m e q in
+        let is : Some (end_of [] comes.how) ≡ Some e = sym meant_end ∙ sym (ap (λ (o : Observation). o.end) same) ∙ q in
+        let work : (meaning unit m).moves ≡ (whole_run unit fresh EmptyList).counters.work = ap (λ (o : Observation). o.moves) (same ∙ meaning_whole unit) in
+        let moves : (b comes.count).moves ≡ comes.count = ap (λ (p : monitor.Progress). p.instructions) at_end in
+        (comes.count, inl (seen_end ∙ is, seen_output), omega (arith, work, moves, comes.few));
     shows = λ m. (0, inl ([], refl), omega arith);
     shows_only = λ k. (0, prefix_of_eq (b k).output [] (quiet k).output);
     heap = λ k. (0, let q = (quiet k).heap in omega (arith, q));

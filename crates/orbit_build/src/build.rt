@@ -10,7 +10,7 @@ ghost use Rattle.orbit_build.specs.Faithful.{Faithful};
 use crate::emit::{push, push_load};
 use crate::fault::BuildFault;
 use crate::text::build_forms;
-use image_file::{write_image, Image};
+use image_file::{Image, write_image};
 use m68020_code::Instr;
 use std::alloc::Global;
 use t_base::Names;
@@ -20,7 +20,7 @@ const CODE_START: u32 = 0x1_0000;
 /// The word of the empty list.
 const EMPTY_LIST: u32 = 5;
 
-/// Bytes of static words, of which each sum that may be open has one.
+/// Bytes of static words: each sum that may be open has one.
 const STATICS: usize = 1600;
 
 /// The code of a text.

@@ -5,7 +5,7 @@ ghost use Rattle.m68020_code.specs.Table.{is_row, spelling};
 ghost use Rattle.t_meaning.specs.Form.{is_fixnum};
 ghost use Rattle.orbit_build.specs.Code.{word, slot, load, save, add_saved, bytes_of};
 
-use m68020_code::{encode, Cond, Ea, Instr, Width};
+use m68020_code::{Cond, Ea, Instr, Width, encode};
 use t_base::Memory;
 
 const STATICS_START: u32 = 0x2000_0000;
@@ -24,9 +24,7 @@ pub fn push(out: &mut Vec<u8>, i: Instr) -> Result<(), Memory>
     ensures { OnOk result (out.new.items ≡ out.old.items ++ spelling i) }
 {
     let mut bytes = [0u8; 10];
-    let Some(len) = encode(&i, &mut bytes) else {
-        return Err(Memory);
-    };
+    let len = encode(&i, &mut bytes).unwrap();
     out.extend_from_slice(&bytes[..len])?;
     Ok(())
 }

@@ -9,7 +9,11 @@ use crate::fault::BuildFault;
 use crate::literal::{read_close, read_literal, read_open, read_plus, skip};
 
 /// A literal.
-fn build_literal<'a>(text: &'a [u8], depth: u32, out: &mut Vec<u8>) -> Result<(u32, &'a [u8]), BuildFault>
+fn build_literal<'a>(
+    text: &'a [u8],
+    depth: u32,
+    out: &mut Vec<u8>,
+) -> Result<(u32, &'a [u8]), BuildFault>
     ensures read { IfOk result (λ s. ReadsAs (literal_at text.now) depth s.0 s.1.now out.old.items out.new.items) }
     ensures within { IfOk result (λ s. (0 < s.0) × (s.0 + length s.1.now ≤ length text.now)) }
     ensures unbuilt { IsErrOf result BuildFault.Unbuilt → literal_at text.now ≡ None }
@@ -23,7 +27,12 @@ fn build_literal<'a>(text: &'a [u8], depth: u32, out: &mut Vec<u8>) -> Result<(u
 
 #[cycle(form)]
 /// A sum behind its opening parenthesis.
-fn build_sum<'a>(text: &'a [u8], room: u32, depth: u32, out: &mut Vec<u8>) -> Result<(u32, &'a [u8]), BuildFault>
+fn build_sum<'a>(
+    text: &'a [u8],
+    room: u32,
+    depth: u32,
+    out: &mut Vec<u8>,
+) -> Result<(u32, &'a [u8]), BuildFault>
     requires small { length text.now ≤ 2 ^ 20 }
     requires slots { depth + room < 400 }
     ensures read { IfOk result (λ s. ReadsAs (sum_at (form_at room) text.now) depth s.0 s.1.now out.old.items out.new.items) }
@@ -46,7 +55,12 @@ fn build_sum<'a>(text: &'a [u8], room: u32, depth: u32, out: &mut Vec<u8>) -> Re
 #[cycle(form)]
 /// The form at the front of a text, in which so many parentheses may be open at once, under so many sums whose second operand
 /// it is part of: its literals and sums, and what stands behind it.
-pub fn build_form<'a>(text: &'a [u8], room: u32, depth: u32, out: &mut Vec<u8>) -> Result<(u32, &'a [u8]), BuildFault>
+pub fn build_form<'a>(
+    text: &'a [u8],
+    room: u32,
+    depth: u32,
+    out: &mut Vec<u8>,
+) -> Result<(u32, &'a [u8]), BuildFault>
     requires small { length text.now ≤ 2 ^ 20 }
     requires slots { depth + room ≤ 400 }
     ensures read { IfOk result (λ s. ReadsAs (form_at room text.now) depth s.0 s.1.now out.old.items out.new.items) }

@@ -1,4 +1,5 @@
-// Names, numbers and shared parts that every form of a program has.
+//! What every form of a program has: names in first-seen order, variables, constants, builtins, faults, how values are shown,
+//! the parts that no pass changes, small lists that contracts see as lists, and lines and columns of a text.
 #![tactic(auto)]
 
 mod basics;

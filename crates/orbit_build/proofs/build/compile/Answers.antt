@@ -1,4 +1,4 @@
-use Rattle.std.proofs.Common.{◌≡◌, ℕ, List, [], length, Some, None, refl, sym, ap, ◌∙◌, subst, arith, rules}
+use Rattle.std.proofs.Common.{◌≡◌, ℕ, List, [], sym, ap, ◌∙◌, subst, rules}
 use Rattle.std.specs.Prelude.{replicate}
 use Rattle.image_file.specs.Grammar.{Parts, IsImage, IsImageOf}
 use Rattle.m68020_step.specs.declared.storage.TheConstants.{CODE_START}

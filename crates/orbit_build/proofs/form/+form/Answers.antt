@@ -1,5 +1,5 @@
-use Rattle.std.proofs.Common.{◌≡◌, ◌<◌, ℕ, List, Option, Some, None, refl, sym, ap, ◌∙◌, arith, rules}
-use Rattle.orbit_build.specs.Reading.{Read, skipped, plus_at, close_at, sum_of, form_at, sum_at, ReadsAs}
+use Rattle.std.proofs.Common.{◌≡◌, refl, sym, ap, ◌∙◌, arith, rules}
+use Rattle.orbit_build.specs.Reading.{skipped, plus_at, close_at, sum_of, form_at}
 use Rattle.orbit_build.proofs.Steps.{form_is_literal, form_is_none, form_is_sum, none_at_plus, none_at_first, none_at_second, none_at_close, sum_read, sum_emitted}
 use Rattle.orbit_build.proofs.form.+form.Goals as goal
 

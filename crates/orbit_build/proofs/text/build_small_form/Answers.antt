@@ -1,5 +1,4 @@
-use Rattle.std.proofs.Common.{◌≡◌, ◌<◌, ◌≤◌, Some, sym, ◌∙◌, subst, arith, rules}
-use Rattle.orbit_build.specs.Grammar.{most_nodes}
+use Rattle.std.proofs.Common.{arith, rules}
 use Rattle.orbit_build.proofs.Texts.{small_none, small_over, small_some}
 use Rattle.orbit_build.proofs.text.build_small_form.Goals as goal
 

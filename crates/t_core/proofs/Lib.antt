@@ -1,0 +1,2 @@
+pub mod DatumLemmas
+pub mod SumLemmas

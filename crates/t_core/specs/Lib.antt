@@ -1,0 +1,5 @@
+pub mod Counts
+pub mod Limits
+pub mod Nodes
+pub mod Smaller
+pub mod Whole

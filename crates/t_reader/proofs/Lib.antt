@@ -1,0 +1,13 @@
+pub mod Adding
+pub mod Chaining
+pub mod Closing
+pub mod Delivering
+pub mod Depth
+pub mod GrammarLaws
+pub mod Holding
+pub mod LastList
+pub mod Lexemes
+pub mod Moves
+pub mod Reading
+pub mod Steps
+pub mod Wholeness
