@@ -13,6 +13,7 @@ use Rattle.m68020_code.specs.declared.instr.Width.{Width}
 use Rattle.m68020_code.specs.declared.instr.Width.TheVariants.{Byte, Word, Long}
 use Rattle.m68020_code.specs.Table.{is_row, spelling}
 use Rattle.m68020_code.proofs.Lengths.{spelling_words}
+use Rattle.m68020_step.specs.declared.machine.Sizes.{Sizes}
 use Rattle.m68020_step.specs.declared.machine.Step.{Step}
 use Rattle.m68020_step.specs.declared.registers.Registers.{Registers}
 use Rattle.m68020_step.specs.declared.registers.Effect.{Effect}
@@ -34,7 +35,7 @@ use Rattle.m68020_asm.specs.declared.item.Item.TheVariants.{Plain, Label, Branch
 use Rattle.m68020_asm.specs.Items.{size_of, size_of_any, code_start, address, IsLabelAt, CanAssemble}
 use Rattle.m68020_asm.specs.Widths.{displacement}
 use Rattle.m68020_asm.specs.Assembled.{bytes_of, bytes_of_any, code_before, IsAssembled}
-use Rattle.m68020_asm.specs.Run.{Program, address_in, instruction_of, instruction_of_any, instruction_in, or_else, found_at, carried_out, item_step, went_on, reached, machine_after}
+use Rattle.m68020_asm.specs.Run.{Program, address_in, instruction_of, instruction_of_any, instruction_in, or_else, found_at, carried_out, item_step, went_on, reached, machine_after, start_of}
 use Rattle.m68020_asm.proofs.Addresses.{wider, address_next_of}
 use Rattle.m68020_asm.proofs.LabelPlaces.{address_bound}
 use Rattle.m68020_asm.proofs.Emitted.{code_next_of}
@@ -179,6 +180,10 @@ module _ (items : List Item) (bytes labels : List ℕ) (can : CanAssemble items)
 
   label_bound : (n k : ℕ) → IsLabelAt items n k → slice_index labels n ≤ code_start + 2 ^ 28
   label_bound n k there = omega (arith, label_address n k there, address_bound items h.widths k can (omega (arith, slice_get_within items k (Label n) there)))
+
+  -- the run starts at the entry's place, with the assembled code
+  pub starts : (statics : List ℕ) (entry k : ℕ) (sizes : Sizes) → IsLabelAt items entry k → let s : State = start_of (program_of items bytes labels h) bytes statics entry sizes in (s.registers.pc ≡ address items h.widths k) × (s.storage.code ≡ bytes)
+  starts statics entry k sizes there = (label_address entry k there, refl)
 
   -- each is a row of the table
   row_of : (k : ℕ) (item : Item) (i : Instr) → slice_get items k ≡ Some item → instruction_of labels (h.widths k) (address items h.widths k) item ≡ Some i → is_row i ≡ true

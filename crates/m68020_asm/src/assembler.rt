@@ -18,8 +18,8 @@ use t_base::Memory;
 
 /// The code of the items: each branch with the smallest width, each label at its address. An error means that memory ran out.
 ///
-/// Sweeps over the items, in both directions in turn, until no branch grows. Each sweep takes time linear in the items. Usual
-/// code needs a few; there are at most two in each direction for each branch.
+/// The items are swept in both directions in turn, until no branch grows. Each sweep takes time linear in the items. Usual code
+/// needs a few; at most there are two in each direction for each branch, and one more.
 pub fn assemble(alloc: Global, items: &[Item]) -> Result<Code, Memory>
     requires { CanAssemble items.now }
     ensures { IfOk result (λ code. IsAssembled items.now code.bytes.items code.labels.items) }

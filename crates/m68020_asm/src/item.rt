@@ -9,9 +9,9 @@ pub enum Item {
     Plain(Instr),
     /// The label of this number stands here. It has no bytes.
     Label(u32),
-    /// A branch to a label, of two, four or six bytes.
+    /// A branch to a label: Bcc (MC68020 User's Manual), of two, four or six bytes.
     Branch(Cond, u32),
-    /// The address of a label goes into an address register, of number 0 to 7, by LEA from an absolute address.
+    /// The address of a label goes into the address register of this number, 0 to 7, by LEA of an absolute long address.
     CodeAddr { reg: u8, label: u32 },
 }
 

@@ -1,28 +1,22 @@
 //! Which lists of items the tests assemble.
 
 ghost use Rattle.std.specs.Prelude.{◌≡◌, ◌≤◌, ◌^◌, true, length};
-ghost use Rattle.rows_image.specs.Lists.{is_nop, is_listed};
+ghost use Rattle.rows_image.specs.Lists.{IsListed};
 
 use m68020_asm::{Code, Item, assemble};
 use m68020_code::Instr;
 use std::alloc::Global;
 
-fn is_nop(i: &Instr) -> bool
-    ensures { result ≡ is_nop i.now }
-{
-    matches!(i, Instr::Nop)
-}
-
 /// Instructions that do nothing, labels numbered in order up to this count, and what names these.
 fn is_listed(items: &[Item], count: u32) -> bool
     requires { length items.now ≤ 2 ^ 20 }
-    ensures { result ≡ is_listed 0 count items.now }
+    ensures { result ≡ true → IsListed 0 count items.now }
 {
     let mut next = 0;
     for item in items {
         match item {
             Item::Plain(i) => {
-                if !is_nop(i) {
+                if *i != Instr::Nop {
                     return false;
                 }
             }
