@@ -1,1 +1,2 @@
+pub mod CallUnitLemmas
 pub mod UnitLemmas

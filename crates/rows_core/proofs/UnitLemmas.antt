@@ -1,5 +1,5 @@
 -- The sizes of the test units.
-use Rattle.std.proofs.Common.{◌≡◌, ℕ, zero, suc, ◌+◌, ◌*◌, ◌-◌, ◌^◌, ◌<◌, ◌≤◌, List, [], ◌∷◌, ◌++◌, length, slice_get, Some, None, sum_by, refl, sym, ap, subst, ◌∙◌, pos, arith, length-append, add-one, inl, inr}
+use Rattle.std.proofs.Common.{◌≡◌, ℕ, zero, suc, ◌+◌, ◌*◌, ◌-◌, ◌^◌, ◌<◌, ◌≤◌, List, [], ◌∷◌, ◌++◌, length, slice_get, Some, refl, sym, ap, subst, ◌∙◌, pos, arith, length-append, add-one, inl, inr}
 use Rattle.std.proofs.lemmas.Bool.{cases_lt}
 use Rattle.std.proofs.lemmas.List.Sums.{sum_by-append}
 use Rattle.std.proofs.lemmas.Option.{slice_get_within}
@@ -7,11 +7,10 @@ use Rattle.t_base.specs.declared.basics.Var.{Var}
 use Rattle.t_base.specs.declared.shared_parts.Const.{Const}
 use Rattle.t_base.specs.declared.shared_parts.Const.TheVariants as Constant
 use Rattle.t_prim.specs.SharedParts.{HasLowerParts, StandsBelow}
-use Rattle.t_core.specs.declared.forms.Core.{Core}
 use Rattle.t_core.specs.declared.forms.Core.TheVariants as Node
 use Rattle.t_core.specs.declared.forms.FormKind.TheVariants.{Plain}
 use Rattle.t_core.specs.declared.forms.Form.{Form}
-use Rattle.t_core.specs.Counts.{form_count, datum_nodes, parts}
+use Rattle.t_core.specs.Counts.{form_count, datum_nodes}
 use Rattle.t_core.proofs.DatumLemmas.{datum_atom, datum_pair}
 use Rattle.rows_core.specs.Units.{IsOnes, IsQuote, HaveAtMost, rest_of}
 
@@ -88,10 +87,6 @@ lambda_size form vars n kind nodes count small pairs =
 pub more_forms : (k : ℕ) (forms : List Form) (form : Form) → HaveAtMost (k * 10010) forms → HaveAtMost 10010 (form ∷ []) → HaveAtMost ((k + 1) * 10010) (forms ++ form ∷ [])
 more_forms k forms form before one pairs = omega (arith, sum_by-append (λ f. form_count pairs f + 8) forms (form ∷ []), before pairs, one pairs)
 
--- what one and two pushes to an empty list give
-module _ {X : Type 0} {x : X} {new : List X} {old : List X} where
-  pub first_pushed : new ≡ old ++ x ∷ [] → old ≡ [] → new ≡ x ∷ []
-  first_pushed e empty = e ∙ ap (λ l. l ++ x ∷ []) empty
-
-  pub next_pushed : {y : X} → new ≡ old ++ x ∷ [] → old ≡ y ∷ [] → new ≡ y ∷ x ∷ []
-  next_pushed e one = e ∙ ap (λ l. l ++ x ∷ []) one
+-- what a push to a known list gives
+pub pushed : {X : Type 0} (x : X) {new old ys : List X} → new ≡ old ++ x ∷ [] → old ≡ ys → new ≡ ys ++ x ∷ []
+pushed x e known = e ∙ ap (λ l. l ++ x ∷ []) known

@@ -1,1 +1,2 @@
+pub mod CallUnit
 pub mod Units

@@ -1,10 +1,10 @@
 // The limits with their counts, and quoted lists.
-use crate::units::{lambda_forms, ones, quote_form, shared_of};
+use crate::units::{call_unit, lambda_forms, ones, quote_form, shared_of};
 use std::alloc::Global;
 use std::process::Abort;
 use std::test::Fail;
 use t_base::Const;
-use t_core::{LimitFault, UnitCore, limits, nodes};
+use t_core::{LimitFault, UnitCore, limits, nodes, weight};
 
 fn check_limits(
     rt: &impl Abort,
@@ -114,5 +114,12 @@ fn a_quoted_list_of_a_thousand_is_over(rt: HostRuntime) -> Result<(), Fail> {
         }),
     )?;
     check_quoted_unit(&rt, rt.alloc(), 999, Ok(()))?;
+    Ok(())
+}
+
+#[test]
+fn a_whole_unit(rt: HostRuntime) -> Result<(), Fail> {
+    let unit = call_unit(rt.alloc())?;
+    assert_eq!(rt; weight(&unit), 169);
     Ok(())
 }

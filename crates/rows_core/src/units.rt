@@ -1,5 +1,7 @@
 // Units for the tests, with what is known of their size.
 ghost use Rattle.std.specs.Prelude.{◌≡◌, ◌*◌, ◌<◌, ◌≤◌, [], ◌∷◌, length, IfOk};
+ghost use Rattle.t_core.specs.Whole.{IsWhole};
+ghost use Rattle.rows_core.specs.CallUnit.{IsBare, IsCallUnit};
 ghost use Rattle.rows_core.specs.Units.{IsOnes, IsQuote, HaveAtMost};
 
 use std::alloc::Global;
@@ -23,12 +25,12 @@ pub fn ones(alloc: Global, count: u32) -> Result<Vec<(Const, Const)>, Fail>
 
 /// Shared parts with these pairs, and the operations that each unit has.
 pub fn shared_of(alloc: Global, pairs: Vec<(Const, Const)>, size: u32) -> Result<Shared, Fail>
-    ensures { IfOk result (λ shared. shared.pairs.items ≡ pairs.items) }
+    ensures { IfOk result (IsBare pairs.items size) }
 {
     let mut names = Names::new(alloc);
-    let setter = names.intern(b"setter")?;
+    names.intern(b"setter")?;
     let op = OpInfo {
-        name: setter,
+        name: Name(0),
         default: false,
     };
     Ok(Shared {
@@ -36,7 +38,7 @@ pub fn shared_of(alloc: Global, pairs: Vec<(Const, Const)>, size: u32) -> Result
         strings: Vec::new(alloc),
         pairs,
         globals: Vec::new(alloc),
-        ops: [op, op, op].to_vec(alloc)?,
+        ops: Vec::from_slice(alloc, &[op, op, op])?,
         size,
     })
 }
@@ -95,4 +97,36 @@ pub fn lambda_forms(rt: &impl Abort, alloc: Global, counts: &[u32]) -> Result<Ve
         next = next.wrapping_add(count);
     }
     Ok(forms)
+}
+
+/// The unit `((lambda (x) x) 5)`.
+pub fn call_unit(alloc: Global) -> Result<UnitCore, Fail>
+    ensures unit { IfOk result IsCallUnit }
+    ensures whole { IfOk result IsWhole }
+{
+    let mut params = Vec::new(alloc);
+    params.push(Var(0))?;
+    let mut operands = Vec::new(alloc);
+    operands.push(2)?;
+    let mut nodes = Vec::new(alloc);
+    nodes.push(Core::Local(Var(0)))?;
+    nodes.push(Core::Lambda {
+        params: Vars::from_vec(params),
+        body: 0,
+    })?;
+    nodes.push(Core::Const(Const::Fix(5)))?;
+    nodes.push(Core::Call {
+        operator: 1,
+        operands: Keys::from_vec(operands),
+        tail: false,
+    })?;
+    let form = Form {
+        kind: FormKind::Plain,
+        nodes,
+        root: 3,
+    };
+    let mut forms = Vec::new(alloc);
+    forms.push(form)?;
+    let shared = shared_of(alloc, Vec::new(alloc), 5)?;
+    Ok(UnitCore { shared, forms })
 }

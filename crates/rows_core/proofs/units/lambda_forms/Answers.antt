@@ -1,4 +1,4 @@
-use Rattle.std.proofs.Common.{◌+◌, ◌*◌, List, subst, sym, arith, length}
+use Rattle.std.proofs.Common.{◌+◌, ◌*◌, List, subst, sym}
 use Rattle.t_core.specs.declared.forms.Form.{Form}
 use Rattle.rows_core.specs.Units.{HaveAtMost}
 use Rattle.rows_core.proofs.UnitLemmas.{more_forms}

@@ -1,4 +1,4 @@
-use Rattle.std.proofs.Common.{◌+◌, ap, length, subst, sym, List, arith}
+use Rattle.std.proofs.Common.{◌+◌, subst, sym, List}
 use Rattle.t_base.specs.declared.shared_parts.Const.{Const}
 use Rattle.rows_core.specs.Units.{IsOnes}
 use Rattle.rows_core.proofs.UnitLemmas.{ones_push, rest_next}
