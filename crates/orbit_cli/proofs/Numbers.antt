@@ -1,6 +1,5 @@
 -- The value of digits grows with each digit.
-use Rattle.std.proofs.Common.{◌≡◌, ℕ, ◌+◌, ◌-◌, ◌*◌, ◌≤◌, ◌<◌, List, [], ◌∷◌, Option, Some, None, refl, sym, subst, arith, le_trans}
-use Rattle.std.specs.Prelude.{nat_le, if◌then◌else◌}
+use Rattle.std.proofs.Common.{◌≡◌, ℕ, ◌+◌, ◌-◌, ◌*◌, ◌≤◌, ◌<◌, List, [], ◌∷◌, None, subst, arith, le_trans}
 use Rattle.orbit_cli.specs.Words.{digits_value, up_to}
 
 digits_value-above : (v : ℕ) (bs : List ℕ) → v ≤ digits_value v bs

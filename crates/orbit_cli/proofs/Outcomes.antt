@@ -1,10 +1,10 @@
 -- From what the parts of a command come to, to what it comes to.
-use Rattle.std.proofs.Common.{◌≡◌, ℕ, ◌⊎◌, Bool, true, false, List, [], ◌∷◌, ◌++◌, Option, Some, None, refl, sym, ap, ◌∙◌, subst, inl, inr, ⊎_elim}
-use Rattle.std.specs.Prelude.{option_map, IsTrue}
+use Rattle.std.proofs.Common.{◌≡◌, ℕ, Bool, true, false, List, Option, Some, None, refl, sym, ap, ◌∙◌, subst, inl, inr, ⊎_elim}
+use Rattle.std.specs.Prelude.{option_map}
 use Rattle.t_ports.specs.Causes.{Rose}
 use Rattle.t_ports.specs.Files.{Files, IfBothTold, IsSame, Puts}
 use Rattle.t_ports.specs.Pieces.{TookFront}
-use Rattle.program_runs.specs.Runs.{End, Broken}
+use Rattle.program_runs.specs.Runs.{Broken}
 use Rattle.m68020_step.specs.declared.machine.Sizes.{Sizes}
 use Rattle.m68020_step.specs.Boot.{is_size}
 use Rattle.image_file.specs.Grammar.{Parts, IsImageOf}
@@ -13,15 +13,14 @@ use Rattle.orbit_build.specs.Faithful.{Faithful, KeepsMeaning}
 use Rattle.orbit_monitor.specs.declared.end.Exit.{Exit}
 use Rattle.orbit_monitor.specs.declared.end.Exit.TheVariants as exit
 use Rattle.orbit_monitor.specs.Run.{run}
-use Rattle.orbit_monitor.specs.Observed.{end_of, observed}
-use Rattle.orbit_monitor.specs.Answering.{Loaded, fresh, run_on}
+use Rattle.orbit_monitor.specs.Observed.{end_of}
+use Rattle.orbit_monitor.specs.Answering.{Loaded, run_on}
 use Rattle.orbit_cli.specs.declared.status.Status.{Status}
 use Rattle.orbit_cli.specs.declared.status.Status.TheVariants as status
 use Rattle.orbit_cli.specs.Words.{Go}
-use Rattle.orbit_cli.specs.Lines.{write_line, memory_line}
 use Rattle.orbit_cli.specs.Answer.{Answer, answer, answer_on, end_status, full_status}
-use Rattle.orbit_cli.specs.Outcome.{Outside, outside, IsUntouched, Says, IsFetched, IsCompiled, sizes_of, Ran, IsOutOfMemory, IsNotKept, IsNotPut, IsUnwritten, GoOutcome}
-use Rattle.orbit_cli.specs.Parts.{IsBuilt, IsReady, IsAnswered, IsCutOff, IsReported, out_of, err_of, KeptAndRun, KeepFails, KeepLacksMemory, KeptOutcome}
+use Rattle.orbit_cli.specs.Outcome.{Outside, IsUntouched, Says, IsCompiled, sizes_of, Ran, IsUnwritten, GoOutcome}
+use Rattle.orbit_cli.specs.Parts.{IsReady, IsAnswered, IsCutOff, IsReported, out_of, err_of, KeepFails, KeepLacksMemory, KeptOutcome}
 
 -- ---- folders
 

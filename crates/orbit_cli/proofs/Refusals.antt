@@ -1,5 +1,5 @@
 -- Why a text was not compiled, once it was fetched.
-use Rattle.std.proofs.Common.{◌≡◌, ℕ, List, Option, Result, Ok, Err}
+use Rattle.std.proofs.Common.{ℕ, List, Option, Result, Ok, Err}
 use Rattle.std.specs.Prelude.{IfErr}
 use Rattle.t_ports.specs.Files.{Files}
 use Rattle.orbit_cli.specs.declared.prepare.Refusal.{Refusal}

@@ -1,12 +1,11 @@
 -- What is put of a run, where a put fails and where none does.
-use Rattle.std.proofs.Common.{◌≡◌, ℕ, ◌+◌, ◌-◌, ◌≤◌, ◌<◌, List, [], ◌∷◌, ◌++◌, Option, Some, None, refl, sym, ap, ◌∙◌, subst, arith, append_assoc, le_trans}
-use Rattle.std.specs.Prelude.{min, ◌^◌}
+use Rattle.std.proofs.Common.{◌≡◌, ℕ, ◌+◌, ◌-◌, ◌≤◌, ◌<◌, List, [], ◌++◌, Option, None, sym, ap, ◌∙◌, subst, arith, append_assoc}
 use Rattle.t_ports.specs.Causes.{Rose}
 use Rattle.t_ports.specs.Pieces.{TookFront}
 use Rattle.program_runs.specs.Runs.{IsPrefix}
 use Rattle.orbit_monitor.specs.declared.end.Exit.{Exit}
-use Rattle.orbit_monitor.specs.Run.{Progress, act, further, followed, run_from}
-use Rattle.orbit_monitor.specs.Answering.{Loaded, run_on, after, last_after, FailsAtPut}
+use Rattle.orbit_monitor.specs.Run.{Progress, act, followed, run_from}
+use Rattle.orbit_monitor.specs.Answering.{Loaded, run_on, last_after, FailsAtPut}
 use Rattle.orbit_monitor.proofs.Runs.{run_from-next, run_from-add, run_from-grows, further-going}
 use Rattle.orbit_cli.specs.declared.status.Status.{Status}
 use Rattle.orbit_cli.specs.declared.status.Status.TheVariants as status

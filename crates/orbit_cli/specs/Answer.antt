@@ -4,7 +4,6 @@ use Rattle.m68020_step.specs.declared.machine.Sizes.{Sizes}
 use Rattle.image_file.specs.Grammar.{Parts}
 use Rattle.orbit_monitor.specs.declared.end.Exit.{Exit}
 use Rattle.orbit_monitor.specs.declared.end.Exit.TheVariants as exit
-use Rattle.orbit_monitor.specs.Run.{Progress}
 use Rattle.orbit_monitor.specs.Observed.{shown_of}
 use Rattle.orbit_monitor.specs.Answering.{Loaded, fresh, run_on, last_after}
 use Rattle.orbit_cli.specs.declared.status.Status.{Status}

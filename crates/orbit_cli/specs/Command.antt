@@ -1,5 +1,5 @@
 -- The command that the code holds.
-use Rattle.std.specs.Prelude.{ℕ, IsTrue}
+use Rattle.std.specs.Prelude.{IsTrue}
 use Rattle.m68020_step.specs.Boot.{is_size}
 use Rattle.orbit_cli.specs.declared.words.Command.{Command}
 use Rattle.orbit_cli.specs.Words.{Go}

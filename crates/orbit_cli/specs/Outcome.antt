@@ -1,5 +1,5 @@
 -- What a command comes to: by its status, what stands on the sinks, what the folder holds, and why.
-use Rattle.std.specs.Prelude.{◌≡◌, ℕ, ◌^◌, ◌<◌, ◌≤◌, ◌⊎◌, List, ◌++◌, length, Option, Some, None}
+use Rattle.std.specs.Prelude.{◌≡◌, ℕ, ◌^◌, ◌<◌, ◌≤◌, ◌⊎◌, List, length, Option, Some, None}
 use Rattle.t_ports.specs.Causes.{Rose}
 use Rattle.t_ports.specs.Files.{Files, IfTold, IfBothTold, IsSame, Puts}
 use Rattle.t_ports.specs.Pieces.{TookFront}
@@ -12,7 +12,7 @@ use Rattle.orbit_cli.specs.declared.status.Status.{Status}
 use Rattle.orbit_cli.specs.declared.status.Status.TheVariants as status
 use Rattle.orbit_cli.specs.Words.{Go, command_of}
 use Rattle.orbit_cli.specs.Lines.{usage_line, unread_line, long_line, write_line, memory_line, unbuilt_line}
-use Rattle.orbit_cli.specs.Answer.{Answer, answer}
+use Rattle.orbit_cli.specs.Answer.{answer}
 
 -- what is outside: the folder's files, where it tells them, its two counts of faults, and the two sinks with theirs
 pub record Outside (S E : Type 0) : Type 0 where

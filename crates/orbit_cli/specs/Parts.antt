@@ -1,7 +1,7 @@
 -- What the parts of a command come to.
 use Rattle.std.specs.Prelude.{◌≡◌, ℕ, ◌⊎◌, List, Option}
 use Rattle.t_ports.specs.Causes.{Rose}
-use Rattle.t_ports.specs.Files.{Files, IfBothTold, IsSame, Puts}
+use Rattle.t_ports.specs.Files.{Files, IfBothTold, Puts}
 use Rattle.t_ports.specs.Pieces.{TookFront}
 use Rattle.m68020_step.specs.declared.machine.Sizes.{Sizes}
 use Rattle.image_file.specs.Grammar.{Parts, IsImageOf}

@@ -1,8 +1,7 @@
 -- What a sink took of pieces, before one of them failed and after each that did not.
-use Rattle.std.proofs.Common.{◌≡◌, ℕ, ◌+◌, ◌≤◌, ◌<◌, List, [], ◌∷◌, ◌++◌, length, take, drop, Bor, Result, Ok, Err, refl, sym, ap, subst, ◌∙◌, append_assoc, slice_index_or}
-use Rattle.std.specs.Prelude.{OnErr, IfErr}
+use Rattle.std.proofs.Common.{◌≡◌, ℕ, ◌+◌, ◌<◌, List, [], ◌∷◌, ◌++◌, length, take, drop, Bor, Result, Ok, Err, refl, sym, ap, subst, ◌∙◌, append_assoc, slice_index_or}
+use Rattle.std.specs.Prelude.{OnErr}
 use Rattle.std.proofs.lemmas.List.{take-append-drop, take_more, append-nil}
-use Rattle.t_ports.specs.declared.ports.Failed.{Failed}
 use Rattle.t_ports.specs.Pieces.{text_of, TookFront}
 
 text_of-append : (xs ys : List (Bor (List ℕ))) → text_of (xs ++ ys) ≡ text_of xs ++ text_of ys

@@ -1,5 +1,5 @@
 -- What a folder tells of its content.
-use Rattle.std.specs.Prelude.{◌≡◌, ◌≢◌, ℕ, ◌<◌, ◌≤◌, List, Option, Some, None, Result, IfErr, length}
+use Rattle.std.specs.Prelude.{◌≡◌, ◌≢◌, ℕ, ◌<◌, List, Option, Some, None, length}
 use Rattle.t_ports.specs.Causes.{Rose}
 use Rattle.t_ports.specs.declared.ports.FetchFault.{FetchFault}
 use Rattle.t_ports.specs.declared.ports.FetchFault.TheVariants as fetch

@@ -1,4 +1,4 @@
-use Rattle.std.proofs.Common.{rules, ◌≡◌, ◌<◌, ℕ, ◌+◌, ◌-◌, ◌*◌}
+use Rattle.std.proofs.Common.{rules}
 use Rattle.orbit_cli.proofs.Numbers.{up_to-over}
 use Rattle.orbit_cli.proofs.words.value_up_to.Goals as goal
 

@@ -1,4 +1,4 @@
-use Rattle.std.proofs.Common.{◌≡◌, ◌≤◌, ℕ, List, ◌++◌, length, take}
+use Rattle.std.proofs.Common.{◌≤◌, take}
 use Rattle.t_ports.specs.Pieces.{text_of}
 use Rattle.t_ports.proofs.pieces.put_all.Given as goal
 
