@@ -1,5 +1,5 @@
 -- A listing, line by line.
-use Rattle.std.proofs.Common.{◌≡◌, ℕ, zero, suc, true, ◌+◌, ◌-◌, ◌≤◌, List, [], ◌∷◌, ◌++◌, length, take, drop, refl, sym, ap, ◌∙◌, append_assoc, arith}
+use Rattle.std.proofs.Common.{◌≡◌, ℕ, zero, suc, true, ◌+◌, ◌-◌, ◌≤◌, List, [], ◌∷◌, ◌++◌, length, drop, refl, sym, ap, ◌∙◌, append_assoc, arith}
 use Rattle.std.proofs.lemmas.List.{append-nil, length-append, take_at, drop_at}
 use Rattle.m68020_code.specs.declared.instr.Instr.{Instr}
 use Rattle.m68020_code.specs.Table.{is_row, spelling}
@@ -28,7 +28,7 @@ lines-first at zero (b ∷ bytes) some e positive = absurd (omega (arith, positi
 lines-first at (suc size) (b ∷ bytes) some e positive =
     let same : size_at (b ∷ bytes) - 1 ≡ size = omega (arith, e) in
     ap (λ rest. first_line at (b ∷ bytes) ++ rest)
-        (ap (λ n. lines (at + 1) n bytes) same ∙ lines-before (at + 1) size bytes ∙ ap (λ n. lines n 0 (drop size bytes)) (omega arith))
+    (ap (λ n. lines (at + 1) n bytes) same ∙ lines-before (at + 1) size bytes ∙ ap (λ n. lines n 0 (drop size bytes)) (omega arith))
 
 -- a line behind what stands there takes one from what remains
 pub lines-next : (before after whole : List ℕ) (at size : ℕ) (bytes rest : List ℕ)
@@ -40,7 +40,6 @@ lines-next before after whole at size bytes rest is_whole is_after is_rest some 
 
 pub lines-end : (before whole : List ℕ) (at : ℕ) (bytes : List ℕ) → before ++ lines at 0 bytes ≡ whole → length bytes ≡ 0 → before ≡ whole
 lines-end before whole at bytes e none = sym (append-nil before) ∙ ap (λ t. before ++ t) (sym (lines-none at bytes none)) ∙ e
-
 
 line_of_row : (at : ℕ) (i : Instr) (rest : List ℕ) → is_row i ≡ true → first_line at (spelling i ++ rest) ≡ line at (spelling i) (instruction at i)
 line_of_row at i rest row = rw (decode_of_spelling i rest row, take_at (spelling i) rest (length (spelling i)) refl) refl
