@@ -1,3 +1,4 @@
+mod ImageOutcomes
 mod Numbers
 mod Outcomes
 mod Refusals

@@ -43,7 +43,7 @@ puts_after_same (Some x) (Some y) (Some z) name bytes p q = record { here = q.he
 -- ---- how a run ends
 
 -- the statuses that a run has
-abbrev is_of_run : Status → Bool
+abbrev pub is_of_run : Status → Bool
 is_of_run status.Done = true
 is_of_run status.SourceFault = true
 is_of_run status.HeapFull = true
@@ -71,7 +71,7 @@ end_is_of_run (Some (exit.Full stack asked left)) = full_is_of_run stack
 end_is_of_run (Some (exit.Stop why at)) = refl
 end_is_of_run None = refl
 
-not_of_run : (s : Status) → is_of_run s ≡ false → (o : Option Exit) → end_status o ≡ s → ⊥
+pub not_of_run : (s : Status) → is_of_run s ≡ false → (o : Option Exit) → end_status o ≡ s → ⊥
 not_of_run s no_run o e =
     let both : true ≡ false = sym (end_is_of_run o) ∙ ap is_of_run e ∙ no_run in
     cc

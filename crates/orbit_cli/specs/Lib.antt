@@ -1,5 +1,8 @@
 pub mod Answer
 pub mod Command
+pub mod ImageOutcome
+pub mod ImageParts
+pub mod ImageWords
 pub mod Lines
 pub mod Outcome
 pub mod Parts

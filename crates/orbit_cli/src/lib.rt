@@ -2,6 +2,9 @@
 //! contract of `orbit` is the promise of the whole program.
 #![tactic(auto)]
 
+mod image;
+mod image_words;
+mod inspect;
 mod lines;
 mod prepare;
 mod report;

@@ -3,10 +3,13 @@
 ghost use Rattle.std.specs.Prelude.{◌≡◌, map};
 ghost use Rattle.std.specs.String.{string_bytes};
 ghost use Rattle.orbit_cli.specs.Lines.{usage_line};
-ghost use Rattle.orbit_cli.specs.Outcome.{outside, Outcome, GoOutcome};
+ghost use Rattle.orbit_cli.specs.ImageOutcome.{ProgramOutcome};
+ghost use Rattle.orbit_cli.specs.Outcome.{outside, GoOutcome};
 ghost use Rattle.orbit_cli.specs.Command.{view_of, HasSizes};
 ghost use Rattle.orbit_cli.specs.Parts.{change, refusal_line, refusal_status, Notes, KeptOutcome};
 
+use crate::image_words::read_image_words;
+use crate::inspect::inspect;
 use crate::lines::{put_long, put_unread};
 use crate::prepare::{Ready, Refusal, prepare};
 use crate::report::{finish, unwritten};
@@ -90,7 +93,7 @@ fn go<F: Folder, S: Sink, E: Sink>(
 /// Does what the words ask for.
 ///
 /// The words are those of the command line without the program's own name. What the command comes to, by its status, is told
-/// by `Outcome`: what stands on `out` and `err`, what the folder holds, and why.
+/// by `ProgramOutcome`: what stands on `out` and `err`, what the folder holds, and why.
 pub fn orbit<F: Folder, S: Sink, E: Sink>(
     alloc: Global,
     words: &[String],
@@ -98,8 +101,11 @@ pub fn orbit<F: Folder, S: Sink, E: Sink>(
     out: &mut S,
     err: &mut E,
 ) -> Status
-    ensures { Outcome S.took E.took (map string_bytes words.now) (outside (F.files folder.old) (F.fetch_faults folder.old) (F.keep_faults folder.old) out.old (S.faults out.old) err.old (E.faults err.old)) (outside (F.files folder.new) (F.fetch_faults folder.new) (F.keep_faults folder.new) out.new (S.faults out.new) err.new (E.faults err.new)) result }
+    ensures { ProgramOutcome S.took E.took (map string_bytes words.now) (outside (F.files folder.old) (F.fetch_faults folder.old) (F.keep_faults folder.old) out.old (S.faults out.old) err.old (E.faults err.old)) (outside (F.files folder.new) (F.fetch_faults folder.new) (F.keep_faults folder.new) out.new (S.faults out.new) err.new (E.faults err.new)) result }
 {
+    if let Some(command) = read_image_words(words) {
+        return inspect(alloc, command, folder, out, err);
+    }
     match read_words(words) {
         None => misused(err),
         Some(command) => go(alloc, &command, folder, out, err),

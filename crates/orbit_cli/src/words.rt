@@ -15,7 +15,7 @@ use m68020_step::Sizes;
 const MAX_SIZE: u64 = 0x1000_0000;
 
 /// Most instructions that a run is asked for.
-const MAX_STEPS: u64 = 0x100_0000_0000;
+pub const MAX_STEPS: u64 = 0x100_0000_0000;
 
 /// `go SRC IMG HEAP STACK STEPS`.
 #[derive(Drop)]
@@ -59,8 +59,8 @@ fn value_up_to(digits: &[u8], limit: u64) -> Option<u64>
     Some(value)
 }
 
-// A number up to the limit.
-fn read_number(word: &[u8], limit: u64) -> Option<u64>
+/// A number up to the limit.
+pub fn read_number(word: &[u8], limit: u64) -> Option<u64>
     requires { limit ≤ 2 ^ 40 }
     ensures { result ≡ number limit word.now }
 {
@@ -71,8 +71,8 @@ fn read_number(word: &[u8], limit: u64) -> Option<u64>
     }
 }
 
-// The size of a region.
-fn read_size(word: &[u8]) -> Option<u32>
+/// The size of a region.
+pub fn read_size(word: &[u8]) -> Option<u32>
     ensures value { result ≡ size word.now }
     ensures sized { IfSome result (λ n. IsTrue (is_size n)) }
 {
