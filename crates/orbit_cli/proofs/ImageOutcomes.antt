@@ -1,6 +1,6 @@
 -- From what the parts of a command on an image come to, to what it comes to.
-use Rattle.std.proofs.Common.{◌≡◌, ℕ, List, [], Option, refl, sym, ap, subst}
-use Rattle.t_ports.specs.Files.{Files, IfBothTold, IsSame}
+use Rattle.std.proofs.Common.{◌≡◌, ℕ, List, [], refl, sym, ap, subst}
+use Rattle.t_ports.specs.Files.{IfBothTold, IsSame}
 use Rattle.t_ports.specs.Pieces.{TookFront}
 use Rattle.m68020_step.specs.declared.machine.Sizes.{Sizes}
 use Rattle.image_file.specs.Grammar.{Parts}

@@ -13,7 +13,7 @@ use Rattle.orbit_tools.specs.Listing.{listing_of}
 use Rattle.orbit_cli.specs.declared.status.Status.{Status}
 use Rattle.orbit_cli.specs.declared.status.Status.TheVariants as status
 use Rattle.orbit_cli.specs.Lines.{long_line, write_line}
-use Rattle.orbit_cli.specs.Answer.{Answer, answer}
+use Rattle.orbit_cli.specs.Answer.{answer}
 use Rattle.orbit_cli.specs.ImageWords.{Inspection, Run, Listing, inspection_of}
 use Rattle.orbit_cli.specs.Outcome.{Outside, IsUntouched, Says, IsUnread, IsOutOfMemory, Outcome}
 

@@ -5,7 +5,13 @@
 #[cfg(test)]
 mod calls;
 #[cfg(test)]
+mod images;
+#[cfg(test)]
+mod inspections;
+#[cfg(test)]
 mod limits;
+#[cfg(test)]
+mod listings;
 #[cfg(test)]
 mod outside;
 #[cfg(test)]

@@ -1,0 +1,75 @@
+//! Commands on an image: calls and what is seen of them.
+
+use crate::calls::{sink, words_of};
+use orbit_cli::{Status, orbit};
+use std::alloc::Global;
+use std::process::Abort;
+use std::test::Fail;
+use t_ports::memory::{MemFolder, MemSink};
+
+/// What is put out and noted, and the status.
+#[derive(Clone, Copy)]
+pub struct Seen {
+    pub out: &'static [u8],
+    pub err: &'static [u8],
+    pub status: Status,
+}
+
+/// The image of six bytes of code that puts 7 and halts with it: MOVEQ #28,D0, TRAP #2, TRAP #0.
+pub static SEVEN: &[u8] =
+    b"ORBI\x00\x00\x00\x01\x00\x01\x00\x00\x00\x00\x00\x06\x00\x00\x00\x00\x00\x00\x00\x00\x00\x00\x00\x00\x00\x00\x00\x00\x70\x1C\x4E\x42\x4E\x40";
+
+/// The image of some code, without static words and names.
+pub fn image_of(alloc: Global, code: &[u8]) -> Result<Vec<u8>, Fail> {
+    let mut bytes = Vec::from_slice(alloc, &SEVEN[..12])?;
+    bytes.extend_from_slice(&(code.len() as u32).to_be_bytes())?;
+    bytes.extend_from_slice(&SEVEN[16..32])?;
+    bytes.extend_from_slice(code)?;
+    Ok(bytes)
+}
+
+/// Does a command on the bytes, which are in the folder under m0.
+pub fn check_on(
+    rt: &impl Abort,
+    alloc: Global,
+    image: &[u8],
+    words: &[&str],
+    out: &mut MemSink,
+    seen: Seen,
+) -> Result<(), Fail> {
+    let mut folder = MemFolder::new(alloc, Vec::new(alloc));
+    folder.add("m0", image)?;
+    let mut err = sink(alloc)?;
+    let status = orbit(alloc, &words_of(alloc, words)?, &mut folder, out, &mut err);
+    assert_eq!(rt; out.bytes(), seen.out);
+    assert_eq!(rt; err.bytes(), seen.err);
+    assert_eq!(rt; status, seen.status);
+    Ok(())
+}
+
+/// The same with ample room for what is put out.
+pub fn check(
+    rt: &impl Abort,
+    alloc: Global,
+    image: &[u8],
+    words: &[&str],
+    seen: Seen,
+) -> Result<(), Fail> {
+    check_on(rt, alloc, image, words, &mut sink(alloc)?, seen)
+}
+
+pub fn done(out: &'static [u8]) -> Seen {
+    Seen {
+        out,
+        err: b"",
+        status: Status::Done,
+    }
+}
+
+pub fn refused(err: &'static [u8]) -> Seen {
+    Seen {
+        out: b"",
+        err,
+        status: Status::BadImage,
+    }
+}
