@@ -60,13 +60,12 @@ pub nesting_small : (f : Form) (t : Tree) (n : ℕ) → IsForm t f → nest t �
 nesting_small (Literal v) t n h le = omega arith
 nesting_small (Sum a b) t n h le =
     let d = addition_nests t h.0 h.1 n h.2 le in
-    let first : nesting a + 1 ≤ n = one a h.0 h.3 d.1 in
-    let second : nesting b + 1 ≤ n = one b h.1 h.4 d.2 in
-    let m : max (nesting a + 1) (nesting b + 1) ≤ n = max-le first second in
+    let inside : nesting a ≤ nest h.0 = nesting_small a h.0 (nest h.0) h.3 (omega arith) in
+    let behind : nesting b ≤ nest h.1 = nesting_small b h.1 (nest h.1) h.4 (omega arith) in
+    let room_a = d.1 in
+    let room_b = d.2 in
+    let m : max (nesting a + 1) (nesting b + 1) ≤ n = max-le (omega (arith, inside, room_a)) (omega (arith, behind, room_b)) in
     omega (arith, m)
-  where
-    one : (g : Form) (z : Tree) → IsForm z g → nest z + 1 ≤ n → nesting g + 1 ≤ n
-    one g z k q = let r : nesting g ≤ nest z = nesting_small g z (nest z) k (omega arith) in omega (arith, r, q)
 
 -- ---- what the code did
 

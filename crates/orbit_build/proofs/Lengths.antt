@@ -49,7 +49,6 @@ form_words (Sum a b) depth =
     within _ _ _ (omega arith) (both _ _ _ _ (form_words a depth) (both _ _ _ _ (one (save depth)) (both _ _ _ _ (form_words b (depth + 1)) (all (add_saved depth)))))
 
 forms_words : (fs : List Form) → Words (forms_code fs) (30 * unit_nodes fs)
-unfolding unit_nodes
 forms_words [] = within _ _ _ (omega arith) none
 forms_words (f ∷ fs) = within _ _ _ (omega arith) (both _ _ _ _ (form_words f 0) (forms_words fs))
 

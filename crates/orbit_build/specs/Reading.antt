@@ -80,6 +80,20 @@ summed names nodes p = if is_plus names (datum_at nodes p.first) then two_items 
 unfoldable pub operands_at : List (List ℕ) → List Node → ℕ → Option Places
 operands_at names nodes key = as_pair (datum_at nodes key) >>= λ p. summed names nodes p
 
+-- ---- the places of forms
+
+-- the first place, and the others
+pub record Parted : Type 0 where
+  pub key : ℕ
+  pub others : List ℕ
+
+abbrev pub parted : ℕ → List ℕ → Parted
+parted key others = record { key = key; others = others }
+
+abbrev pub first_of : List ℕ → Option Parted
+first_of [] = None
+first_of (k ∷ ks) = Some (parted k ks)
+
 -- ---- how deep data nest
 
 abbrev pub AreShallow : List Tree → Type 0

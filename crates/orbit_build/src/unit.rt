@@ -1,11 +1,12 @@
 //! All forms of a unit, put out as code.
 
-ghost use Rattle.std.specs.Prelude.{◌≡◌, List, OnOk, IfErr, IsErrOf, false};
+ghost use Rattle.std.specs.Prelude.{◌≡◌, ◌<◌, List, length, OnOk, IfErr, IfSome, IsErrOf, false};
+ghost use Rattle.std.specs.Option.{option_map};
 ghost use Rattle.t_meaning.specs.Form.{Form};
 ghost use Rattle.t_reader.specs.Grammar.{Tree};
 ghost use Rattle.t_reader.specs.Unit.{HoldTrees, IsWhole};
 ghost use Rattle.orbit_build.specs.Grammar.{AreForms};
-ghost use Rattle.orbit_build.specs.Reading.{AllBuilt, AreShallow, is_read};
+ghost use Rattle.orbit_build.specs.Reading.{AllBuilt, AreShallow, first_of, is_read, parted};
 
 use crate::fault::BuildFault;
 use crate::form::build_form;
@@ -13,6 +14,17 @@ use t_reader::Unit;
 
 /// At most so many sums are open at once, as lists are in a text.
 const MOST_OPEN: u32 = 400;
+
+/// The first place, and the others.
+fn first_of(keys: &[u32]) -> Option<(u32, &[u32])>
+    ensures value { option_map (λ p. parted p.0 p.1.now) result ≡ first_of keys.now }
+    ensures within { IfSome result (λ p. length p.1.now < length keys.now) }
+{
+    let [key, others @ ..] = keys else {
+        return None;
+    };
+    Some((*key, others))
+}
 
 /// The forms of a unit, one after the other.
 pub fn build_forms(unit: &Unit, out: &mut Vec<u8>) -> Result<(), BuildFault>
@@ -22,9 +34,9 @@ pub fn build_forms(unit: &Unit, out: &mut Vec<u8>) -> Result<(), BuildFault>
     ensures unread { IfErr result (λ e. is_read e ≡ false) }
 {
     let mut keys = unit.forms.as_slice();
-    'forms: while let [key, behind @ ..] = keys {
-        build_form(unit, *key, MOST_OPEN, 0, out)?;
-        keys = behind;
+    'forms: while let Some((key, others)) = first_of(keys) {
+        build_form(unit, key, MOST_OPEN, 0, out)?;
+        keys = others;
     }
     Ok(())
 }
