@@ -159,7 +159,7 @@ module _ {S E : Type 0} (took : S → List ℕ → S → Type 0) (said : E → L
   of_run status.Unbuilt kept r = absurd (not_of_run status.Unbuilt refl (run_on loaded go.steps).end r.status_is)
   of_run status.Memory kept r = absurd (not_of_run status.Memory refl (run_on loaded go.steps).end r.status_is)
   of_run status.Usage kept r = not_of_run status.Usage refl (run_on loaded go.steps).end r.status_is
-  of_run status.SourceRefused kept r = not_of_run status.SourceRefused refl (run_on loaded go.steps).end r.status_is
+  of_run status.SourceRefused kept r = absurd (not_of_run status.SourceRefused refl (run_on loaded go.steps).end r.status_is)
   of_run status.BadImage kept r = not_of_run status.BadImage refl (run_on loaded go.steps).end r.status_is
   of_run status.Limit kept r = not_of_run status.Limit refl (run_on loaded go.steps).end r.status_is
 

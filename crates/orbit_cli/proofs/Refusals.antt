@@ -10,6 +10,7 @@ use Rattle.orbit_cli.specs.Parts.{BuildRefuses, Refuses}
 refuses_fetched : (files : Option Files) (src text : List ℕ) (rose : Type 0) → IsFetched files src text → (r : Refusal) → BuildRefuses text r → Refuses files src rose r
 refuses_fetched files src text rose fetched refusal.Unread h = absurd h
 refuses_fetched files src text rose fetched refusal.Long h = absurd h
+refuses_fetched files src text rose fetched (refusal.Source kind line column) h = (text, fetched, h)
 refuses_fetched files src text rose fetched refusal.Unbuilt h = (text, fetched, h)
 refuses_fetched files src text rose fetched refusal.Memory h = tt
 

@@ -5,6 +5,8 @@ use Rattle.std.specs.Fmt.{decimal, signed_decimal}
 use Rattle.t_base.specs.declared.faults.Fault.{Fault}
 use Rattle.t_base.specs.declared.faults.Fault.TheVariants.{NotProcedure, WrongCount, NotFixnum, NotPair, NotVector, IndexRange, FixnumOverflow, DivideByZero, Unbound, DeadEscape, NotHandled, NotChar, NotString, CharRange, User, NotSymbol}
 use Rattle.program_runs.specs.Runs.{Shown, Fixnum, Character, EmptyList, Truth, Symbol, Kind}
+use Rattle.t_reader.specs.declared.fault.ReadKind.{ReadKind}
+use Rattle.t_reader.specs.declared.fault.ReadKind.TheVariants.{BadByte, Unclosed, ExtraClose, FixnumRange, BadHash, BadString, LoneDot, TooDeep}
 use Rattle.m68020_step.specs.declared.registers.Why.{Why}
 use Rattle.m68020_step.specs.declared.registers.Why.TheVariants.{Illegal, BadAddress, OddAddress, ZeroDivide, BadService}
 
@@ -110,6 +112,24 @@ hex_address n =
 
 abbrev pub stop_line : Why → ℕ → List ℕ
 stop_line why at = codes "machine stop " ++ (stop_name why ++ (codes " at " ++ (hex_address at ++ codes "\n")))
+
+-- the refusals of a text, as they are printed
+abbrev pub read_kind_name : ReadKind → List ℕ
+read_kind_name BadByte = codes "R1 BadByte"
+read_kind_name Unclosed = codes "R2 Unclosed"
+read_kind_name ExtraClose = codes "R3 ExtraClose"
+read_kind_name FixnumRange = codes "R4 FixnumRange"
+read_kind_name BadHash = codes "R5 BadHash"
+read_kind_name BadString = codes "R6 BadString"
+read_kind_name LoneDot = codes "R7 LoneDot"
+read_kind_name TooDeep = codes "R8 TooDeep"
+
+-- of a text with a fault: its name, line and column, and the refusal
+abbrev pub located_line : List ℕ → List ℕ → List ℕ → List ℕ → List ℕ
+located_line src line column refusal = src ++ (codes ":" ++ (line ++ (codes ":" ++ (column ++ (codes ": " ++ (refusal ++ codes "\n"))))))
+
+abbrev pub source_line : List ℕ → ℕ → ℕ → ReadKind → List ℕ
+source_line src line column kind = located_line src (decimal line) (decimal column) (read_kind_name kind)
 
 abbrev pub usage_line : List ℕ
 usage_line = codes "usage: orbit compile SRC IMG | run IMG HEAP STACK STEPS | go SRC IMG HEAP STACK STEPS | check SRC | list IMG | trial N STEPS\n"

@@ -3,15 +3,19 @@ use Rattle.std.specs.Prelude.{◌≡◌, ℕ, ◌^◌, ◌<◌, ◌≤◌, ◌�
 use Rattle.t_ports.specs.Causes.{Rose}
 use Rattle.t_ports.specs.Files.{Files, IfTold, IfBothTold, IsSame, Puts}
 use Rattle.t_ports.specs.Pieces.{TookFront}
-use Rattle.t_meaning.specs.Form.{Form}
+use Rattle.t_base.specs.declared.basics.Span.{Span}
+use Rattle.t_base.specs.Lines.{line_of, column_of}
+use Rattle.t_reader.specs.declared.fault.ReadKind.{ReadKind}
+use Rattle.t_reader.specs.declared.fault.ReadFault.TheVariants as faults
+use Rattle.t_reader.specs.Grammar.{FirstFault}
 use Rattle.m68020_step.specs.declared.machine.Sizes.{Sizes}
 use Rattle.image_file.specs.Grammar.{Parts, IsImageOf}
-use Rattle.orbit_build.specs.Grammar.{Spells}
+use Rattle.orbit_build.specs.Grammar.{ReadsWithoutUnit}
 use Rattle.orbit_build.specs.Faithful.{Faithful}
 use Rattle.orbit_cli.specs.declared.status.Status.{Status}
 use Rattle.orbit_cli.specs.declared.status.Status.TheVariants as status
 use Rattle.orbit_cli.specs.Words.{Go, command_of}
-use Rattle.orbit_cli.specs.Lines.{usage_line, unread_line, long_line, write_line, memory_line, unbuilt_line}
+use Rattle.orbit_cli.specs.Lines.{usage_line, source_line, unread_line, long_line, write_line, memory_line, unbuilt_line}
 use Rattle.orbit_cli.specs.Answer.{answer}
 
 -- what is outside: the folder's files, where it tells them, its two counts of faults, and the two sinks with theirs
@@ -82,14 +86,29 @@ pub record IsLong {S E : Type 0} (said : E → List ℕ → E → Type 0) (src :
   pub untouched : IsUntouched old new
   pub noted : Says said old new (long_line src)
 
--- no unit that is built so far is spelled so
-abbrev pub HasNoUnit : List ℕ → Type 0
-HasNoUnit text = (unit : List Form) → Spells text unit → ⊥
+-- the first fault of the text is of this kind, and stands at this line and column
+pub record HasFault (text : List ℕ) (kind : ReadKind) (line column : ℕ) : Type 0 where
+  pub span : Span
+  pub first : FirstFault text (faults.Fault kind span)
+  pub line_is : line ≡ line_of text span.start
+  pub column_is : column ≡ column_of text span.start
 
+-- the text has a fault of the grammar, and the line says which and where
+pub record IsRefused {S E : Type 0} (said : E → List ℕ → E → Type 0) (src : List ℕ) (old new : Outside S E) : Type 0 where
+  pub text : List ℕ
+  pub kind : ReadKind
+  pub line : ℕ
+  pub column : ℕ
+  pub fetched : IsFetched old.files src text
+  pub fault : HasFault text kind line column
+  pub untouched : IsUntouched old new
+  pub noted : Says said old new (source_line src line column kind)
+
+-- the text has a reading, and no unit that is built so far is spelled so
 pub record IsUnbuilt {S E : Type 0} (said : E → List ℕ → E → Type 0) (src : List ℕ) (old new : Outside S E) : Type 0 where
   pub text : List ℕ
   pub fetched : IsFetched old.files src text
-  pub unbuilt : HasNoUnit text
+  pub unbuilt : ReadsWithoutUnit text
   pub untouched : IsUntouched old new
   pub noted : Says said old new unbuilt_line
 
@@ -129,7 +148,7 @@ GoOutcome took said go old new status.Unbuilt = IsUnbuilt said go.src old new
 GoOutcome took said go old new status.WriteFault = IsUnwritten took said go old new
 GoOutcome took said go old new status.Memory = IsOutOfMemory said old new
 GoOutcome took said go old new status.Usage = ⊥
-GoOutcome took said go old new status.SourceRefused = ⊥
+GoOutcome took said go old new status.SourceRefused = IsRefused said go.src old new
 GoOutcome took said go old new status.BadImage = ⊥
 GoOutcome took said go old new status.Limit = ⊥
 GoOutcome took said go old new status.MachineStop = ⊥

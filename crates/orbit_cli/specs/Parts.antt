@@ -5,15 +5,16 @@ use Rattle.t_ports.specs.Files.{Files, IfBothTold, Puts}
 use Rattle.t_ports.specs.Pieces.{TookFront}
 use Rattle.m68020_step.specs.declared.machine.Sizes.{Sizes}
 use Rattle.image_file.specs.Grammar.{Parts, IsImageOf}
+use Rattle.orbit_build.specs.Grammar.{ReadsWithoutUnit}
 use Rattle.orbit_build.specs.Faithful.{Faithful}
 use Rattle.orbit_monitor.specs.Answering.{Loaded, fresh}
 use Rattle.orbit_cli.specs.declared.status.Status.{Status}
 use Rattle.orbit_cli.specs.declared.status.Status.TheVariants as status
 use Rattle.orbit_cli.specs.declared.prepare.Refusal.{Refusal}
 use Rattle.orbit_cli.specs.declared.prepare.Refusal.TheVariants as refusal
-use Rattle.orbit_cli.specs.Lines.{unread_line, long_line, memory_line, unbuilt_line, write_line}
+use Rattle.orbit_cli.specs.Lines.{source_line, unread_line, long_line, memory_line, unbuilt_line, write_line}
 use Rattle.orbit_cli.specs.Answer.{answer_on}
-use Rattle.orbit_cli.specs.Outcome.{Outside, IsFetched, IsOver, HasNoUnit, IsUntouched, IsNotKept}
+use Rattle.orbit_cli.specs.Outcome.{Outside, IsFetched, IsOver, HasFault, IsUntouched, IsNotKept}
 
 -- an image of the text, and it is loaded
 pub record IsBuilt (text : List ℕ) (sizes : Sizes) (bytes : List ℕ) (loaded : Loaded) : Type 0 where
@@ -32,25 +33,29 @@ pub record IsReady (files : Option Files) (src : List ℕ) (sizes : Sizes) (byte
 abbrev pub BuildRefuses : List ℕ → Refusal → Type 0
 BuildRefuses text refusal.Unread = ⊥
 BuildRefuses text refusal.Long = ⊥
-BuildRefuses text refusal.Unbuilt = HasNoUnit text
+BuildRefuses text (refusal.Source kind line column) = HasFault text kind line column
+BuildRefuses text refusal.Unbuilt = ReadsWithoutUnit text
 BuildRefuses text refusal.Memory = Unit {0}
 
 -- why no text was compiled, where `rose` says that the count of failed fetches rose
 abbrev pub Refuses : Option Files → List ℕ → Type 0 → Refusal → Type 0
 Refuses files src rose refusal.Unread = rose
 Refuses files src rose refusal.Long = IsOver files src
-Refuses files src rose refusal.Unbuilt = (text : List ℕ) × IsFetched files src text × HasNoUnit text
+Refuses files src rose (refusal.Source kind line column) = (text : List ℕ) × IsFetched files src text × HasFault text kind line column
+Refuses files src rose refusal.Unbuilt = (text : List ℕ) × IsFetched files src text × ReadsWithoutUnit text
 Refuses files src rose refusal.Memory = Unit {0}
 
 abbrev pub refusal_line : List ℕ → Refusal → List ℕ
 refusal_line src refusal.Unread = unread_line src
 refusal_line src refusal.Long = long_line src
+refusal_line src (refusal.Source kind line column) = source_line src line column kind
 refusal_line src refusal.Unbuilt = unbuilt_line
 refusal_line src refusal.Memory = memory_line
 
 abbrev pub refusal_status : Refusal → Status
 refusal_status refusal.Unread = status.FetchFault
 refusal_status refusal.Long = status.LongFile
+refusal_status (refusal.Source kind line column) = status.SourceRefused
 refusal_status refusal.Unbuilt = status.Unbuilt
 refusal_status refusal.Memory = status.Memory
 

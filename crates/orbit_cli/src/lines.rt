@@ -4,13 +4,14 @@ ghost use Rattle.std.specs.Prelude.{◌≡◌, ◌<◌, OnOk, OnErr};
 ghost use Rattle.std.specs.Fmt.{signed_decimal};
 ghost use Rattle.t_ports.specs.Causes.{HasCause};
 ghost use Rattle.t_ports.specs.Pieces.{TookFront};
-ghost use Rattle.orbit_cli.specs.Lines.{unnamed_text, character_text, kind_text, line_end, value_line, fault_words, operand_of, fault_line, region_name, full_line, limit_line, stop_name, hex_digit, hex_address, stop_line, unread_line, long_line};
+ghost use Rattle.orbit_cli.specs.Lines.{unnamed_text, character_text, kind_text, line_end, value_line, fault_words, operand_of, fault_line, region_name, full_line, limit_line, stop_name, hex_digit, hex_address, stop_line, read_kind_name, located_line, source_line, unread_line, long_line};
 
 use itoa::Buffer;
 use m68020_step::Why;
 use t_base::Fault;
 use t_ports::pieces::put_all;
 use t_ports::ports::{Failed, Sink};
+use t_reader::ReadKind;
 
 // What ends the last line of output whose last byte is this one.
 fn end_of_line<'a>(last: Option<u8>) -> &'a [u8]
@@ -218,6 +219,56 @@ pub fn put_stop<S: Sink>(sink: &mut S, why: Why, at: u32) -> Result<(), Failed>
             b"\n",
         ],
     )
+}
+
+fn name_of_kind<'a>(kind: ReadKind) -> &'a [u8]
+    ensures { result.now ≡ read_kind_name kind }
+{
+    match kind {
+        ReadKind::BadByte => b"R1 BadByte",
+        ReadKind::Unclosed => b"R2 Unclosed",
+        ReadKind::ExtraClose => b"R3 ExtraClose",
+        ReadKind::FixnumRange => b"R4 FixnumRange",
+        ReadKind::BadHash => b"R5 BadHash",
+        ReadKind::BadString => b"R6 BadString",
+        ReadKind::LoneDot => b"R7 LoneDot",
+        ReadKind::TooDeep => b"R8 TooDeep",
+    }
+}
+
+// Puts the line of a refusal at a line and column.
+fn put_located<S: Sink>(
+    sink: &mut S,
+    src: &str,
+    line: &str,
+    column: &str,
+    refusal: &[u8],
+) -> Result<(), Failed>
+    ensures ok { OnOk result (S.took sink.old (located_line src.now line.now column.now refusal.now) sink.new) }
+    ensures cause { HasCause (S.faults sink.old) (S.faults sink.new) result }
+{
+    put_all(
+        sink,
+        &[src.as_bytes(), b":", line.as_bytes(), b":", column.as_bytes(), b": ", refusal, b"\n"],
+    )
+}
+
+/// Puts the line of a text with a fault of the grammar.
+pub fn put_source_fault<S: Sink>(
+    sink: &mut S,
+    src: &str,
+    line: u32,
+    column: u32,
+    kind: ReadKind,
+) -> Result<(), Failed>
+    ensures ok { OnOk result (S.took sink.old (source_line src.now line column kind) sink.new) }
+    ensures cause { HasCause (S.faults sink.old) (S.faults sink.new) result }
+{
+    let mut line_text = Buffer::new();
+    let mut column_text = Buffer::new();
+    let line = line_text.format(line);
+    let column = column_text.format(column);
+    put_located(sink, src, line, column, name_of_kind(kind))
 }
 
 /// Puts the line of a file that could not be read.

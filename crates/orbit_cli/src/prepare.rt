@@ -1,6 +1,7 @@
 //! From the name of a text to a loaded image.
 
 ghost use Rattle.std.specs.Prelude.{◌≡◌, ◌≤◌, ◌^◌, IsTrue, length, List, IfOk, IfErr};
+ghost use Rattle.t_base.specs.Lines.{line_of, column_of};
 ghost use Rattle.t_ports.specs.Causes.{Rose};
 ghost use Rattle.t_ports.specs.Files.{IfBothTold, IsSame};
 ghost use Rattle.image_file.specs.Grammar.{Parts, IsImageOf, parts_of};
@@ -14,8 +15,9 @@ use m68020_step::Sizes;
 use orbit_build::{BuildFault, compile};
 use orbit_monitor::{Boot, boot};
 use std::alloc::Global;
-use t_base::Memory;
+use t_base::{Memory, Span, place};
 use t_ports::ports::{FetchFault, Folder};
+use t_reader::ReadKind;
 
 /// Most bytes of a text.
 const MAX_TEXT: usize = 0x10_0000;
@@ -27,6 +29,12 @@ pub enum Refusal {
     Unread,
     /// It has more bytes than are taken.
     Long,
+    /// It has a fault of the grammar: its kind, and the line and column where it stands, from 1.
+    Source {
+        kind: ReadKind,
+        line: u32,
+        column: u32,
+    },
     /// It has a form that is not built yet.
     Unbuilt,
     /// There was no memory.
@@ -79,6 +87,16 @@ fn load(alloc: Global, bytes: &[u8], sizes: Sizes) -> Result<Boot, Memory>
     Ok(loaded)
 }
 
+// A fault of the grammar, with its line and column.
+fn source_refusal(text: &[u8], kind: ReadKind, span: Span) -> Refusal
+    requires { length text.now ≤ 2 ^ 20 }
+    ensures { result ≡ Refusal.Source kind (line_of text.now span.start) (column_of text.now span.start) }
+{
+    let at = span.start.min(text.len() as u32);
+    let (line, column) = place(text, at);
+    Refusal::Source { kind, line, column }
+}
+
 fn build(alloc: Global, text: &[u8], sizes: Sizes) -> Result<Ready, Refusal>
     requires short { length text.now ≤ 2 ^ 20 }
     requires heap { IsTrue (is_size sizes.heap) }
@@ -88,6 +106,7 @@ fn build(alloc: Global, text: &[u8], sizes: Sizes) -> Result<Ready, Refusal>
 {
     let bytes = match compile(alloc, text) {
         Ok(bytes) => bytes,
+        Err(BuildFault::Read { kind, span }) => return Err(source_refusal(text, kind, span)),
         Err(BuildFault::Unbuilt) => return Err(Refusal::Unbuilt),
         Err(BuildFault::Memory) => return Err(Refusal::Memory),
     };

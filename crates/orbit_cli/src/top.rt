@@ -10,7 +10,7 @@ ghost use Rattle.orbit_cli.specs.Parts.{change, refusal_line, refusal_status, No
 
 use crate::image_words::read_image_words;
 use crate::inspect::inspect;
-use crate::lines::{put_long, put_unread};
+use crate::lines::{put_long, put_source_fault, put_unread};
 use crate::prepare::{Ready, Refusal, prepare};
 use crate::report::{finish, unwritten};
 use crate::status::Status;
@@ -42,6 +42,10 @@ fn refuse<E: Sink>(src: &str, refusal: Refusal, err: &mut E) -> Status
         Refusal::Long => {
             let _ = put_long(err, src);
             Status::LongFile
+        }
+        Refusal::Source { kind, line, column } => {
+            let _ = put_source_fault(err, src, line, column, kind);
+            Status::SourceRefused
         }
         Refusal::Unbuilt => {
             let _ = err.put(b"not built yet\n");
