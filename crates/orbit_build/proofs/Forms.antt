@@ -1,154 +1,123 @@
--- What is read is written so, and what is written is read so.
-use Rattle.std.proofs.Common.{◌≡◌, ℕ, zero, suc, ◌-◌, Bool, true, false, List, [], ◌∷◌, ◌++◌, Option, Some, None, refl, sym, ap, ◌∙◌, subst, arith}
-use Rattle.std.specs.Prelude.{if◌then◌else◌, ◌==◌}
-use Rattle.std.proofs.lemmas.Bool.Decides.{nat_tests}
-use Rattle.t_meaning.specs.Form.{Form, Sum}
-use Rattle.orbit_build.specs.Grammar.{is_blank, is_digit, AreBlanks, Syntax, Numeral, Addition, sign, written, IsNumeral, is_atom, IsApart, IsForm, nodes, form_of}
-use Rattle.orbit_build.specs.Reading.{Read, skipped, ends_atom, literal_at, open_at, plus_at, close_at, sum_of, closed_behind, second_behind, first_behind, sum_at, sum_or, form_at}
-use Rattle.orbit_build.proofs.Steps.{form_is_literal, form_is_sum, sum_read}
-use Rattle.orbit_build.proofs.Blanks.{none_some, went, skip_parts, skip_again, blanks_end, digit_no_end, Literals, literal_takes, literal_again, open_takes, close_takes, plus_takes, plus_again}
+-- The form that a datum stands for.
+use Rattle.std.proofs.Common.{◌≡◌, ℕ, ◌+◌, ◌≤◌, ◌<◌, true, List, [], ◌∷◌, ◌++◌, Option, Some, None, refl, sym, ap, ◌∙◌, subst, arith, append_assoc}
+use Rattle.std.specs.Prelude.{ℤ, max, codes, Result, Ok, Err, IfOk}
+use Rattle.orbit_build.specs.declared.fault.BuildFault.{BuildFault}
+use Rattle.std.proofs.Math.Nat.{max-le, le-max_left, le-max_right}
+use Rattle.t_base.specs.declared.basics.Span.{Span}
+use Rattle.t_reader.specs.declared.unit.Node.{Node}
+use Rattle.t_reader.specs.Grammar.{fix, nil, symbol, Tree, leaf, pair}
+use Rattle.t_reader.specs.Unit.{Holds, nest}
+use Rattle.m68020_code.specs.Table.{spelling}
+use Rattle.t_meaning.specs.Form.{Form, Literal, Sum}
+use Rattle.orbit_build.specs.Code.{word, load, save, add_saved, bytes_of, form_code}
+use Rattle.orbit_build.specs.Grammar.{IsAddition, IsForm, IsSmallForm, form_nodes, most_nodes}
+use Rattle.orbit_build.specs.Reading.{datum_at, as_fixnum, Places, operands_at, AreOperands, BuiltAs, SumBuilt}
+use Rattle.orbit_build.proofs.Parts.{none_some, Operands, Summed, fixnum_again, fixnum_takes, operands_again, operands_take}
+use Rattle.orbit_build.proofs.FormRuns.{nesting}
 
--- ---- where a form starts
+-- ---- one form at most
 
-no_blank : (b : ℕ) → is_digit b ≡ true → is_blank b ≡ false
-no_blank b e = grind (arith, nat_tests)
+some_fix : (v w : ℤ) (s r : Span) → leaf s (fix v) ≡ leaf r (fix w) → v ≡ w
+some_fix v w s r e = cc
 
-no_open : (b : ℕ) → is_digit b ≡ true → (b == 40) ≡ false
-no_open b e = grind (arith, nat_tests)
+no_pair : (s r : Span) (v : ℤ) (x y : Tree) → leaf s (fix v) ≡ pair r x y → ⊥
+no_pair s r v x y e = cc
 
-pub starts : (room : ℕ) (s : Syntax) (rest : List ℕ) → IsForm room s → skipped (written s rest) ≡ written s rest
-starts room (Numeral true digits) rest h = refl
-starts room (Numeral false []) rest h = absurd (let x = h.some in omega arith)
-starts room (Numeral false (b ∷ bs)) rest h = ap (λ (w : Bool). if w then skipped (bs ++ rest) else b ∷ (bs ++ rest)) (no_blank b h.decimal.0)
-starts room (Addition opened added first between second closing) rest h = refl
+-- the parts of an addition are the same
+record Same (a b x y : Tree) : Type 0 where
+  first : a ≡ x
+  second : b ≡ y
 
-not_opened : (negative : Bool) (digits rest : List ℕ) → IsNumeral negative digits → None ≡ open_at (sign negative ++ (digits ++ rest))
-not_opened true digits rest h = refl
-not_opened false [] rest h = absurd (let x = h.some in omega arith)
-not_opened false (b ∷ bs) rest h = sym (ap (λ (w : Bool). if w then Some (bs ++ rest) else None) (no_open b h.decimal.0))
+same_tail : (s p b e s2 p2 b2 e2 s3 p3 : Span) (a c x y : Tree) → pair s (leaf p (symbol (codes "+"))) (pair b a (pair e c (leaf s3 nil))) ≡ pair s2 (leaf p2 (symbol (codes "+"))) (pair b2 x (pair e2 y (leaf p3 nil))) → Same a c x y
+same_tail s p b e s2 p2 b2 e2 s3 p3 a c x y q = record { first = cc; second = cc }
 
--- an atom does not end before another one
-not_ended : (negative : Bool) (digits rest : List ℕ) → IsNumeral negative digits → ends_atom (sign negative ++ (digits ++ rest)) ≡ false
-not_ended true digits rest h = refl
-not_ended false [] rest h = absurd (let x = h.some in omega arith)
-not_ended false (b ∷ bs) rest h = digit_no_end b h.decimal.0
+additions_same : (t a b x y : Tree) → IsAddition t a b → IsAddition t x y → Same a b x y
+additions_same t a b x y d e = same_tail _ _ _ _ _ _ _ _ _ _ a b x y (sym d.tree_is ∙ e.tree_is)
 
-pub both : (b : Bool) → b ≡ true → b ≡ false → ⊥
-both b h k = cc
+pub form_once : (f g : Form) (t : Tree) → IsForm t f → IsForm t g → f ≡ g
+form_once (Literal v) (Literal w) t h k = ap (λ (z : ℤ). Literal z) (some_fix v w h.0 k.0 (sym h.1 ∙ k.1))
+form_once (Literal v) (Sum a b) t h k = absurd (no_pair h.0 _ v _ _ (sym h.1 ∙ k.2.tree_is))
+form_once (Sum a b) (Literal v) t h k = absurd (no_pair k.0 _ v _ _ (sym k.1 ∙ h.2.tree_is))
+form_once (Sum a b) (Sum c d) t h k =
+    let s = additions_same t h.0 h.1 k.0 k.1 h.2 k.2 in
+    let first : a ≡ c = form_once a c h.0 h.3 (subst (λ (z : Tree). IsForm z c) (sym s.first) k.3) in
+    let second : b ≡ d = form_once b d h.1 h.4 (subst (λ (z : Tree). IsForm z d) (sym s.second) k.4) in
+    ap (λ (z : Form). Sum z b) first ∙ ap (λ (z : Form). Sum c z) second
 
-pub apart_takes : (room : ℕ) (s : Syntax) (atom : Bool) (blanks rest : List ℕ) → IsForm room s → (atom ≡ true → ends_atom (blanks ++ written s rest) ≡ true) → IsApart atom blanks (is_atom s)
-apart_takes room s false blanks rest h e = tt
-apart_takes room s true (b ∷ bs) rest h e = tt
-apart_takes room (Numeral negative digits) true [] rest h e = absurd (both _ (e refl) (not_ended negative digits rest h))
-apart_takes room (Addition opened added first between second closing) true [] rest h e = refl
+-- ---- how deep it nests
 
-pub apart_again : (s : Syntax) (blanks rest : List ℕ) → AreBlanks blanks → IsApart true blanks (is_atom s) → ends_atom (blanks ++ written s rest) ≡ true
-apart_again s (b ∷ bs) rest h a = blanks_end b bs (written s rest) h
-apart_again (Numeral negative digits) [] rest h a = absurd (both true refl a)
-apart_again (Addition opened added first between second closing) [] rest h a = refl
+addition_nests : (t x y : Tree) (n : ℕ) → IsAddition t x y → nest t ≤ n → (1 ≤ n) × (nest x + 1 ≤ n) × (nest y + 1 ≤ n)
+addition_nests t x y n d h =
+    let k : max 1 (max (nest x + 1) (max (nest y + 1) 0)) ≤ n = subst (λ (z : Tree). nest z ≤ n) d.tree_is h in
+    let a = le-max_left 1 (max (nest x + 1) (max (nest y + 1) 0)) in
+    let b = le-max_right 1 (max (nest x + 1) (max (nest y + 1) 0)) in
+    let c = le-max_left (nest x + 1) (max (nest y + 1) 0) in
+    let e = le-max_right (nest x + 1) (max (nest y + 1) 0) in
+    let f = le-max_left (nest y + 1) 0 in
+    (omega (arith, k, a), omega (arith, k, b, c), omega (arith, k, b, e, f))
 
-pub apart_for : (s : Syntax) (atom : Bool) (blanks rest : List ℕ) → AreBlanks blanks → IsApart atom blanks (is_atom s) → atom ≡ true → ends_atom (blanks ++ written s rest) ≡ true
-apart_for s true blanks rest h a e = apart_again s blanks rest h a
-apart_for s false blanks rest h a e = absurd (both true refl (sym e))
+pub nesting_small : (f : Form) (t : Tree) (n : ℕ) → IsForm t f → nest t ≤ n → nesting f ≤ n
+nesting_small (Literal v) t n h le = omega arith
+nesting_small (Sum a b) t n h le =
+    let d = addition_nests t h.0 h.1 n h.2 le in
+    let inside : nesting a ≤ nest h.0 = nesting_small a h.0 (nest h.0) h.3 (omega arith) in
+    let behind : nesting b ≤ nest h.1 = nesting_small b h.1 (nest h.1) h.4 (omega arith) in
+    let room_a = d.1 in
+    let room_b = d.2 in
+    let m : max (nesting a + 1) (nesting b + 1) ≤ n = max-le (omega (arith, inside, room_a)) (omega (arith, behind, room_b)) in
+    omega (arith, m)
 
--- ---- what is read is written so
+-- ---- what the code did
 
-pub record Taken (room : ℕ) (t : List ℕ) (r : Read) : Type 0 where
-  pub it : Syntax
-  pub form : IsForm room it
-  pub text_is : t ≡ written it r.rest
-  pub form_is : r.form ≡ form_of it
-  pub nodes_are : r.nodes ≡ nodes it
-  pub ends : is_atom it ≡ true → ends_atom r.rest ≡ true
+pub literal_built : (names : List (List ℕ)) (nodes : List Node) (key : ℕ) (t : Tree) (depth : ℕ) (z : ℤ) (old new : List ℕ) → Some z ≡ as_fixnum (datum_at nodes key) → new ≡ old ++ spelling (load (word z)) → Holds names nodes key t → BuiltAs t depth 1 old new
+literal_built names nodes key t depth z old new e code h =
+    record { form = Literal z; is_form = fixnum_takes names nodes key t z h (sym e); nodes_are = refl; code = code }
 
-literal_taken : (room : ℕ) (t : List ℕ) (r : Read) → Literals t r → Taken room t r
-literal_taken room t r l = record {
-  it = Numeral l.negative l.run;
-  form = l.numeral;
-  text_is = l.text_is;
-  form_is = ap (λ (x : Read). x.form) l.read_is;
-  nodes_are = ap (λ (x : Read). x.nodes) l.read_is;
-  ends = λ e. l.ends;
-}
+sum_built : (names : List (List ℕ)) (nodes : List Node) (key : ℕ) (t : Tree) (p : Places) (depth n : ℕ) (old new : List ℕ) → Some p ≡ operands_at names nodes key → ((a b : Tree) → Holds names nodes p.first a → Holds names nodes p.second b → SumBuilt a b depth n old new) → Holds names nodes key t → BuiltAs t depth n old new
+sum_built names nodes key t p depth n old new e built h =
+    let o = operands_take names nodes key t p h (sym e) in
+    let s = built o.x o.y o.first o.second in
+    record { form = Sum s.first s.second; is_form = (o.x, o.y, o.addition, s.is_first, s.is_second); nodes_are = s.nodes_are; code = s.code }
 
-sum_taken : (room : ℕ) (inner : List ℕ) (r : Read) → ((t : List ℕ) (x : Read) → form_at room t ≡ Some x → Taken room t x) → sum_at (form_at room) inner ≡ Some r → Taken (suc room) (40 ∷ inner) r
-unfolding sum_at
-sum_taken room inner r more e =
-    let w0 = went (plus_at (skipped inner)) (λ first. first_behind (form_at room) first) r e in
-    let w1 = went (form_at room w0.it) (λ a. second_behind (form_at room) a) r w0.after in
-    let w2 = went (form_at room (skipped w1.it.rest)) (λ b. closed_behind w1.it b) r w1.after in
-    let w3 = went (close_at (skipped w2.it.rest)) (λ rest. Some (sum_of w1.it w2.it rest)) r w2.after in
-    let k0 = skip_parts inner in
-    let p = plus_takes (skipped inner) w0.it w0.found in
-    let a = more w0.it w1.it w1.found in
-    let k1 = skip_parts w1.it.rest in
-    let b = more (skipped w1.it.rest) w2.it w2.found in
-    let k2 = skip_parts w2.it.rest in
-    let c : skipped w2.it.rest ≡ 41 ∷ w3.it = close_takes (skipped w2.it.rest) w3.it w3.found in
-    let read_is : sum_of w1.it w2.it w3.it ≡ r = some_same _ _ w3.after in
-    let rest_is : w3.it ≡ r.rest = ap (λ (x : Read). x.rest) read_is in
-    let behind : w2.it.rest ≡ k2.blanks ++ (41 ∷ r.rest) = k2.text_is ∙ ap (λ (l : List ℕ). k2.blanks ++ l) (c ∙ ap (λ (l : List ℕ). 41 ∷ l) rest_is) in
-    let second : w1.it.rest ≡ k1.blanks ++ written b.it (k2.blanks ++ (41 ∷ r.rest)) = k1.text_is ∙ ap (λ (l : List ℕ). k1.blanks ++ l) (b.text_is ∙ ap (written b.it) behind) in
-    let first : w0.it ≡ written a.it (k1.blanks ++ written b.it (k2.blanks ++ (41 ∷ r.rest))) = a.text_is ∙ ap (written a.it) second in
-    let all : inner ≡ k0.blanks ++ (43 ∷ (p.blanks ++ written a.it (k1.blanks ++ written b.it (k2.blanks ++ (41 ∷ r.rest))))) =
-    k0.text_is ∙ ap (λ (l : List ℕ). k0.blanks ++ l) (p.text_is ∙ ap (λ (l : List ℕ). 43 ∷ (p.blanks ++ l)) first) in
-    let same : room ≡ suc room - 1 = omega arith in
-    record {
-      it = Addition k0.blanks p.blanks a.it k1.blanks b.it k2.blanks;
-      form = (
-        omega arith,
-        (k0.are, p.are, k1.are, k2.are),
-        (
-          apart_takes room a.it true p.blanks _ a.form (λ e. subst (λ l. ends_atom (p.blanks ++ l) ≡ true) first p.ends),
-          apart_takes room b.it (is_atom a.it) k1.blanks _ b.form (λ e. subst (λ l. ends_atom l ≡ true) second (a.ends e)),
-        ),
-        (subst (λ n. IsForm n a.it) same a.form, subst (λ n. IsForm n b.it) same b.form),
-      );
-      text_is = ap (λ (l : List ℕ). 40 ∷ l) all;
-      form_is = sym (ap (λ (x : Read). x.form) read_is) ∙ ap (λ (f : Form). Sum f w2.it.form) a.form_is ∙ ap (λ (f : Form). Sum (form_of a.it) f) b.form_is;
-      nodes_are = let n = ap (λ (x : Read). x.nodes) read_is in omega (arith, n, a.nodes_are, b.nodes_are);
-      ends = λ e. absurd (both true refl (sym e));
-    }
-  where
-    some_same : (x y : Read) → Some x ≡ Some y → x ≡ y
-    some_same x y e = cc
+pub built_where : (names : List (List ℕ)) (nodes : List Node) (key : ℕ) (p : Places) (depth : ℕ) (old new : List ℕ) (r : Result ℕ BuildFault) → Some p ≡ operands_at names nodes key
+    → IfOk r (λ n. (a b : Tree) → Holds names nodes p.first a → Holds names nodes p.second b → SumBuilt a b depth n old new) → IfOk r (λ n. (t : Tree) → Holds names nodes key t → BuiltAs t depth n old new)
+built_where names nodes key p depth old new (Ok n) e built = λ t h. sum_built names nodes key t p depth n old new e built h
+built_where names nodes key p depth old new (Err f) e built = tt
 
-pub form_takes : (room : ℕ) (t : List ℕ) (r : Read) → form_at room t ≡ Some r → Taken room t r
-unfolding form_at
-form_takes zero t r e = by_opened (open_at t) refl
-  where
-    by_opened : (o : Option (List ℕ)) → open_at t ≡ o → Taken zero t r
-    by_opened None x = literal_taken zero t r (literal_takes t r (sym (ap (λ (o : Option (List ℕ)). sum_or o (λ inner. None) (literal_at t)) x) ∙ e))
-    by_opened (Some inner) x = absurd (none_some r (sym (ap (λ (o : Option (List ℕ)). sum_or o (λ inner. None) (literal_at t)) x) ∙ e))
-form_takes (suc room) t r e = by_opened (λ u x f. form_takes room u x f) (open_at t) refl
-  where
-    by_opened : ((u : List ℕ) (x : Read) → form_at room u ≡ Some x → Taken room u x) → (o : Option (List ℕ)) → open_at t ≡ o → Taken (suc room) t r
-    by_opened more None x = literal_taken (suc room) t r (literal_takes t r (sym (ap (λ (o : Option (List ℕ)). sum_or o (λ inner. sum_at (form_at room) inner) (literal_at t)) x) ∙ e))
-    by_opened more (Some inner) x =
-        subst (λ u. Taken (suc room) u r) (sym (open_takes t inner x))
-        (sum_taken room inner r more (sym (ap (λ (o : Option (List ℕ)). sum_or o (λ i. sum_at (form_at room) i) (literal_at t)) x) ∙ e))
+-- ---- where there is no form
 
--- ---- what is written is read so
+pub neither : (names : List (List ℕ)) (nodes : List Node) (key : ℕ) (t : Tree) (f : Form) → None ≡ as_fixnum (datum_at nodes key) → None ≡ operands_at names nodes key → Holds names nodes key t → IsSmallForm t f → ⊥
+neither names nodes key t (Literal v) e o h k =
+    let s = k.0 in
+    none_some v (e ∙ fixnum_again names nodes key s.0 v (subst (λ (z : Tree). Holds names nodes key z) s.1 h))
+neither names nodes key t (Sum a b) e o h k =
+    let d = k.0 in
+    let s = operands_again names nodes key t d.0 d.1 h d.2 in
+    none_some s.parts (o ∙ s.found)
 
-abbrev pub read_of : Syntax → List ℕ → Read
-read_of s rest = record { form = form_of s; nodes = nodes s; rest = rest }
+pub no_room : (names : List (List ℕ)) (nodes : List Node) (key : ℕ) (t : Tree) (p : Places) (room : ℕ) → Some p ≡ operands_at names nodes key → room ≡ 0 → Holds names nodes key t → nest t ≤ room → ⊥
+no_room names nodes key t p room e z h le =
+    let o = operands_take names nodes key t p h (sym e) in
+    let d = addition_nests t o.x o.y room o.addition le in
+    absurd (let one = d.0 in omega (arith, one, z))
 
-closing_ends : (blanks rest : List ℕ) → AreBlanks blanks → ends_atom (blanks ++ (41 ∷ rest)) ≡ true
-closing_ends [] rest h = refl
-closing_ends (b ∷ bs) rest h = blanks_end b bs (41 ∷ rest) h
+pub no_sum : (names : List (List ℕ)) (nodes : List Node) (key : ℕ) (t : Tree) (f : Form) (p : Places) (room : ℕ) → Some p ≡ operands_at names nodes key
+    → ((a b : Tree) (g k : Form) → Holds names nodes p.first a → Holds names nodes p.second b → nest a ≤ room → nest b ≤ room → AreOperands a b g k → ⊥)
+    → Holds names nodes key t → nest t ≤ room + 1 → IsSmallForm t f → ⊥
+no_sum names nodes key t (Literal v) p room e none h le k =
+    let s = k.0 in
+    let o = operands_take names nodes key t p h (sym e) in
+    no_pair s.0 _ v _ _ (sym s.1 ∙ o.addition.tree_is)
+no_sum names nodes key t (Sum a b) p room e none h le k =
+    let f = k.0 in
+    let o = operands_take names nodes key t p h (sym e) in
+    let s = additions_same t f.0 f.1 o.x o.y f.2 o.addition in
+    let d = addition_nests t o.x o.y (room + 1) o.addition le in
+    none o.x o.y a b o.first o.second (let q = d.1 in omega (arith, q)) (let q = d.2 in omega (arith, q)) (subst (λ (z : Tree). IsForm z a) s.first f.3, subst (λ (z : Tree). IsForm z b) s.second f.4, k.1)
 
-pub form_again : (room : ℕ) (s : Syntax) (rest : List ℕ) → IsForm room s → (is_atom s ≡ true → ends_atom rest ≡ true) → form_at room (written s rest) ≡ Some (read_of s rest)
-unfolding close_at
-form_again room (Numeral negative digits) rest h e =
-    form_is_literal room _ (not_opened negative digits rest h) ∙ literal_again negative digits rest h (e refl)
-form_again room (Addition opened added first between second closing) rest h e =
-    let z = closing ++ (41 ∷ rest) in
-    let y = between ++ written second z in
-    let x = added ++ written first y in
-    let plus : plus_at (skipped (opened ++ (43 ∷ x))) ≡ Some (written first y) =
-    ap plus_at (skip_again opened (43 ∷ x) h.1.0) ∙ plus_again x (apart_again first added y h.1.1 h.2.0) ∙ ap (λ (l : List ℕ). Some l) (skip_again added (written first y) h.1.1 ∙ starts (room - 1) first y h.3.0) in
-    let a = form_again (room - 1) first y h.3.0 (apart_for second (is_atom first) between z h.1.2 h.2.1) in
-    let b : form_at (room - 1) (skipped y) ≡ Some (read_of second z) =
-    ap (form_at (room - 1)) (skip_again between (written second z) h.1.2 ∙ starts (room - 1) second z h.3.1) ∙ form_again (room - 1) second z h.3.1 (λ s. closing_ends closing rest h.1.3) in
-    let close : Some rest ≡ close_at (skipped z) = sym (ap close_at (skip_again closing (41 ∷ rest) h.1.3)) in
-    form_is_sum room _ (opened ++ (43 ∷ x)) h.0 refl ∙ sum_read (form_at (room - 1)) (opened ++ (43 ∷ x)) (written first y) (sym plus) (read_of first y) a (read_of second z) b rest close
+pub too_large : (a b : Tree) (f g : Form) (depth m n : ℕ) (old one two three : List ℕ) → BuiltAs a depth m old one → BuiltAs b (depth + 1) n two three → 2000 ≤ m + n → AreOperands a b f g → ⊥
+too_large a b f g depth m n old one two three x y more k =
+    let first : form_nodes x.form ≡ form_nodes f = ap form_nodes (form_once x.form f a x.is_form k.0) in
+    let second : form_nodes y.form ≡ form_nodes g = ap form_nodes (form_once y.form g b y.is_form k.1) in
+    let few = k.2 in
+    absurd (omega (arith, x.nodes_are, y.nodes_are, first, second, few, more))

@@ -1,17 +1,24 @@
 -- The code of a built text is short enough for an image.
-use Rattle.std.proofs.Common.{◌≡◌, ℕ, ◌+◌, ◌-◌, ◌*◌, ◌%◌, ◌^◌, ◌≤◌, Bool, true, false, List, [], ◌∷◌, ◌++◌, length, refl, sym, ap, subst, arith}
-use Rattle.std.specs.Prelude.{max}
-use Rattle.std.proofs.Math.Nat.{max-le}
+use Rattle.std.proofs.Common.{◌≡◌, ℕ, ◌+◌, ◌*◌, ◌%◌, ◌^◌, ◌≤◌, true, List, [], ◌∷◌, ◌++◌, length, Some, refl, sym, ap, subst, arith}
+use Rattle.std.specs.Prelude.{slice_get}
 use Rattle.std.proofs.lemmas.List.{length-append, length-replicate}
 use Rattle.m68020_code.specs.declared.instr.Instr.{Instr}
 use Rattle.m68020_code.specs.declared.instr.Instr.TheVariants.{Trap}
 use Rattle.m68020_code.specs.Table.{spelling}
 use Rattle.m68020_code.proofs.Lengths.{spelling_words}
 use Rattle.image_file.specs.Grammar.{IsImage}
-use Rattle.t_meaning.specs.Form.{Form}
-use Rattle.orbit_build.specs.Grammar.{Syntax, Numeral, Addition, written, number, IsForm, nodes, form_of, Text, Last, Then, text_of, most_open, AreForms, unit_of, Spells}
+use Rattle.t_reader.specs.declared.unit.Unit.{Unit as TextUnit}
+use Rattle.t_reader.specs.declared.unit.Datum.TheVariants as data_
+use Rattle.t_reader.specs.Grammar.{Tree, fix, leaf}
+use Rattle.t_reader.specs.Unit.{Holds, HoldTrees, IsWhole, node}
+use Rattle.t_meaning.specs.Form.{Form, Literal, Sum, is_fixnum}
+use Rattle.orbit_build.specs.Grammar.{form_nodes, IsForm, AreForms, Spells}
 use Rattle.orbit_build.specs.Code.{word, empty_list, load, save, add_saved, bytes_of, form_code, forms_code, unit_code, statics_bytes, image_of}
-use Rattle.orbit_build.proofs.FormRuns.{HasFixnums, nesting}
+use Rattle.orbit_build.specs.Reading.{AreShallow}
+use Rattle.orbit_build.proofs.Parts.{fixnum_fits, operands_again}
+use Rattle.orbit_build.proofs.Forms.{nesting_small}
+use Rattle.orbit_build.proofs.Tokens.{unit_nodes, nodes_few}
+use Rattle.orbit_build.proofs.FormRuns.{HasFixnums}
 use Rattle.orbit_build.proofs.UnitRuns.{AreSmall}
 
 -- so many words of code at most
@@ -36,35 +43,19 @@ all : (code : List Instr) → Words (bytes_of code) (5 * length code)
 all [] = none
 all (i ∷ is) = within _ _ _ (omega arith) (both _ _ _ _ (one i) (all is))
 
-form_words : (s : Syntax) (depth : ℕ) → Words (form_code depth (form_of s)) (30 * nodes s)
-form_words (Numeral negative digits) depth = within _ _ _ (omega arith) (one (load (word (number negative digits))))
-form_words (Addition opened added first between second closing) depth =
-    within _ _ _ (omega arith) (both _ _ _ _ (form_words first depth) (both _ _ _ _ (one (save depth)) (both _ _ _ _ (form_words second (depth + 1)) (all (add_saved depth)))))
+form_words : (f : Form) (depth : ℕ) → Words (form_code depth f) (30 * form_nodes f)
+form_words (Literal v) depth = within _ _ _ (omega arith) (one (load (word v)))
+form_words (Sum a b) depth =
+    within _ _ _ (omega arith) (both _ _ _ _ (form_words a depth) (both _ _ _ _ (one (save depth)) (both _ _ _ _ (form_words b (depth + 1)) (all (add_saved depth)))))
 
--- each literal and each sum has a byte of the text
-nodes_written : (room : ℕ) (s : Syntax) (rest : List ℕ) → IsForm room s → nodes s + length rest ≤ length (written s rest)
-nodes_written room (Numeral true digits) rest h = omega (arith, length-append digits rest)
-nodes_written room (Numeral false digits) rest h = let some = h.some in omega (arith, length-append digits rest)
-nodes_written room (Addition opened added first between second closing) rest h =
-    let z = closing ++ (41 ∷ rest) in
-    let y = between ++ written second z in
-    let x = added ++ written first y in
-    let a = nodes_written (room - 1) first y h.3.0 in
-    let b = nodes_written (room - 1) second z h.3.1 in
-    omega (arith, a, b, length-append closing (41 ∷ rest), length-append between (written second z), length-append added (written first y), length-append opened (43 ∷ x))
-
-text_words : (x : Text) (atom : Bool) → AreForms atom x → Words (forms_code (unit_of x)) (30 * length (text_of x))
-text_words (Last blanks) atom h = within _ _ _ (omega arith) none
-text_words (Then blanks form rest) atom h =
-    let n = nodes_written most_open form (text_of rest) h.1.0 in
-    within _ _ _ (omega (arith, n, length-append blanks (written form (text_of rest)))) (both _ _ _ _ (form_words form 0) (text_words rest _ h.2))
+forms_words : (fs : List Form) → Words (forms_code fs) (30 * unit_nodes fs)
+forms_words [] = within _ _ _ (omega arith) none
+forms_words (f ∷ fs) = within _ _ _ (omega arith) (both _ _ _ _ (form_words f 0) (forms_words fs))
 
 unit_words : (text : List ℕ) (unit : List Form) → Spells text unit → length text ≤ 2 ^ 20 → Words (unit_code unit) (2 ^ 26)
 unit_words text unit s le =
-    let w = subst (λ u. Words (forms_code u) (30 * length (text_of s.syntax_))) (sym s.unit_is) (text_words s.syntax_ false s.forms) in
-    let short : length (text_of s.syntax_) ≤ 2 ^ 20 = subst (λ l. length l ≤ 2 ^ 20) s.text_is le in
-    within _ _ _ (omega (arith, short)) (both _ _ _ _ (one (load empty_list)) (both _ _ _ _ w (one (Trap 0))))
-
+    let few = nodes_few text unit s in
+    within _ _ _ (omega (arith, few, le)) (both _ _ _ _ (one (load empty_list)) (both _ _ _ _ (forms_words unit) (one (Trap 0))))
 pub code_short : (text : List ℕ) (unit : List Form) → Spells text unit → length text ≤ 2 ^ 20 → length (unit_code unit) ≤ 2 ^ 28
 code_short text unit s le = let w = unit_words text unit s le in omega (arith, w.length_is, w.few)
 
@@ -89,17 +80,22 @@ is_image text unit s le =
 
 -- ---- what is known of the forms of a built text
 
-form_small : (room : ℕ) (s : Syntax) → IsForm room s → HasFixnums (form_of s) × (nesting (form_of s) ≤ room)
-form_small room (Numeral negative digits) h = (h.fixnum, omega arith)
-form_small room (Addition opened added first between second closing) h =
-    let a = form_small (room - 1) first h.3.0 in
-    let b = form_small (room - 1) second h.3.1 in
-    let m : max (nesting (form_of first)) (nesting (form_of second)) ≤ room - 1 = max-le a.1 b.1 in
-    ((a.0, b.0), let some = h.0 in omega (arith, m, some))
+module _ (u : TextUnit) (w : IsWhole u) where
+  literal_small : (key : ℕ) (t : Tree) (v : _) (h : Holds u.names u.nodes.items key t) → IsForm t (Literal v) → is_fixnum v ≡ true
+  literal_small key t v h f =
+      let k = subst (λ (z : Tree). Holds u.names u.nodes.items key z) f.1 h in
+      let whole_ = w.data_whole key (node f.0 k.0) k.1 in
+      fixnum_fits v (subst (λ d. Rattle.t_reader.specs.Unit.IsWholeDatum u.names key d) k.2 whole_)
 
-text_small : (x : Text) (atom : Bool) → AreForms atom x → AreSmall (unit_of x)
-text_small (Last blanks) atom h = tt
-text_small (Then blanks form rest) atom h = (form_small most_open form h.1.0, text_small rest _ h.2)
+  form_fixnums : (f : Form) (key : ℕ) (t : Tree) → Holds u.names u.nodes.items key t → IsForm t f → HasFixnums f
+  form_fixnums (Literal v) key t h f = literal_small key t v h f
+  form_fixnums (Sum a b) key t h f =
+      let s = operands_again u.names u.nodes.items key t f.0 f.1 h f.2 in
+      (form_fixnums a s.parts.first f.0 s.first f.3, form_fixnums b s.parts.second f.1 s.second f.4)
 
-pub unit_small : (text : List ℕ) (unit : List Form) → Spells text unit → AreSmall unit
-unit_small text unit s = subst AreSmall (sym s.unit_is) (text_small s.syntax_ false s.forms)
+  pub unit_small : (unit : List Form) (ts : List Tree) (keys : List ℕ) → HoldTrees u.names u.nodes.items keys ts → AreShallow ts → AreForms ts unit → AreSmall unit
+  unit_small [] [] keys h s f = tt
+  unit_small [] (t ∷ ts) keys h s f = absurd f
+  unit_small (g ∷ gs) [] keys h s f = absurd f
+  unit_small (g ∷ gs) (t ∷ ts) keys h s f =
+      ((form_fixnums g h.0 t h.3 f.0.0, nesting_small g t 400 f.0.0 s.0), unit_small gs ts h.1 h.4 s.1 f.1)

@@ -37,7 +37,7 @@ use Rattle.t_meaning.proofs.More.{more_bound_keeps}
 use Rattle.orbit_build.specs.Grammar.{most_open}
 use Rattle.orbit_build.specs.Code.{empty_list, form_code, forms_code, unit_code, statics_bytes, image_of}
 use Rattle.orbit_build.specs.Faithful.{factor, frame_words, KeepsMeaning}
-use Rattle.orbit_build.proofs.Blanks.{none_some}
+use Rattle.orbit_build.proofs.Parts.{none_some}
 use Rattle.orbit_build.proofs.Words.{face_word}
 use Rattle.orbit_build.proofs.Runs.{Finishes, with_registers, finishes_one, finishes_on}
 use Rattle.orbit_build.proofs.Sums.{Fit, Ending}

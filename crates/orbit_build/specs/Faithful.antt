@@ -1,19 +1,15 @@
 -- When an image does what a text means.
 use Rattle.std.specs.Prelude.{◌≡◌, ℕ, ◌+◌, ◌*◌, true, List, [], ◌∷◌, max}
 use Rattle.program_runs.specs.Keeps.{KeepsWithin}
-use Rattle.t_meaning.specs.Form.{Form, Literal, Sum}
+use Rattle.t_meaning.specs.Form.{Form}
 use Rattle.t_meaning.specs.Meaning.{meaning}
 use Rattle.image_file.specs.Grammar.{Parts, IsImageOf}
 use Rattle.m68020_step.specs.declared.machine.Sizes.{Sizes}
 use Rattle.m68020_step.specs.Boot.{is_size}
 use Rattle.orbit_monitor.specs.Observed.{observed}
-use Rattle.orbit_build.specs.Grammar.{Spells}
+use Rattle.orbit_build.specs.Grammar.{form_nodes, Spells}
 
--- the literals and sums of a form, and those of the largest form of a unit
-abbrev pub form_nodes : Form → ℕ
-form_nodes (Literal v) = 1
-form_nodes (Sum a b) = form_nodes a + form_nodes b + 1
-
+-- the literals and sums of the largest form of a unit
 abbrev pub largest : List Form → ℕ
 largest [] = 0
 largest (f ∷ fs) = max (form_nodes f) (largest fs)

@@ -1,19 +1,24 @@
 //! From a text to the bytes of its image.
 
-ghost use Rattle.std.specs.Prelude.{◌≡◌, ◌≤◌, ◌^◌, ◌++◌, List, length, replicate, IfOk, OnOk, IsErrOf};
+ghost use Rattle.std.specs.Prelude.{◌≡◌, ◌≤◌, ◌^◌, List, length, IfOk, IfErr, IsErrOf, Err, false};
+ghost use Rattle.t_base.specs.declared.basics.Span.{Span};
 ghost use Rattle.t_meaning.specs.Form.{Form};
-ghost use Rattle.orbit_build.specs.Grammar.{Spells};
-ghost use Rattle.orbit_build.specs.Code.{unit_code, image_of};
-ghost use Rattle.orbit_build.specs.Reading.{UnitBuilt, forms_of};
+ghost use Rattle.t_reader.specs.declared.fault.ReadFault.TheVariants as read_fault;
+ghost use Rattle.t_reader.specs.declared.fault.ReadKind.{ReadKind};
+ghost use Rattle.t_reader.specs.Grammar.{FirstFault, Tree};
+ghost use Rattle.t_reader.specs.Unit.{HoldTrees, IsWhole};
+ghost use Rattle.orbit_build.specs.Grammar.{AreForms, ReadsWithoutUnit};
+ghost use Rattle.orbit_build.specs.Reading.{AreShallow, UnitBuilt, is_read};
 ghost use Rattle.orbit_build.specs.Faithful.{Faithful};
 
 use crate::emit::{push, push_load};
 use crate::fault::BuildFault;
-use crate::text::build_forms;
+use crate::unit::build_forms;
 use image_file::{Image, write_image};
 use m68020_code::Instr;
 use std::alloc::Global;
 use t_base::Names;
+use t_reader::{Unit, read_unit};
 
 const CODE_START: u32 = 0x1_0000;
 
@@ -23,32 +28,34 @@ const EMPTY_LIST: u32 = 5;
 /// Bytes of static words: each sum that may be open has one.
 const STATICS: usize = 1600;
 
-/// The code of a text.
-fn code_of(alloc: Global, text: &[u8]) -> Result<Vec<u8>, BuildFault>
-    requires { length text.now ≤ 2 ^ 20 }
-    ensures built { IfOk result (λ code. UnitBuilt (forms_of text.now) code.items) }
-    ensures unbuilt { IsErrOf result BuildFault.Unbuilt → forms_of text.now ≡ None }
+/// The code of a unit.
+fn code_of(alloc: Global, unit: &Unit) -> Result<Vec<u8>, BuildFault>
+    requires { IsWhole unit.now }
+    ensures built { IfOk result (λ code. (ts : List Tree) → HoldTrees unit.now.names unit.now.nodes.items unit.now.forms.items ts → UnitBuilt ts code.items) }
+    ensures unbuilt { IsErrOf result BuildFault.Unbuilt → (ts : List Tree) (fs : List Form) → HoldTrees unit.now.names unit.now.nodes.items unit.now.forms.items ts → AreShallow ts → ¬ AreForms ts fs }
+    ensures unread { IfErr result (λ e. is_read e ≡ false) }
 {
     let mut code = Vec::new(alloc);
     push_load(&mut code, EMPTY_LIST)?;
-    build_forms(text, &mut code)?;
+    build_forms(unit, &mut code)?;
     push(&mut code, Instr::Trap(0))?;
     Ok(code)
 }
 
-/// The bytes of the image that does what a text means.
+/// The bytes of the image that does what a text of at most 2^20 bytes means.
 ///
-/// The text is a list of bytes of which forms are written: literals of one to nine digits and sums `(+ a b)` of two forms, with
-/// blanks (tab, line feed, carriage return, space) around their parts. The answer is `Unbuilt` for every other text, and
-/// `Memory` where there was no memory.
+/// Each datum of the text is a fixnum or a list of the symbol `+` and two such data, with at most 2,000 fixnums and lists.
+/// `Err(Read)` is the first fault of the text. `Err(Unbuilt)` comes only for a text that has a reading, but whose data are
+/// not such. `Err(Memory)` comes only where memory ran out.
 pub fn compile(alloc: Global, text: &[u8]) -> Result<Vec<u8>, BuildFault>
     requires { length text.now ≤ 2 ^ 20 }
     ensures faithful { IfOk result (λ bytes. Faithful text.now bytes.items) }
     ensures few { IfOk result (λ bytes. length bytes.items ≤ 2 ^ 29) }
-    // Unbuilt comes only where no unit is spelled so
-    ensures unbuilt { IsErrOf result BuildFault.Unbuilt → (unit : List Form) → ¬ Spells text.now unit }
+    ensures fault { (kind : ReadKind) (span : Span) → result ≡ Err (BuildFault.Read kind span) → FirstFault text.now (read_fault.Fault kind span) }
+    ensures unbuilt { IsErrOf result BuildFault.Unbuilt → ReadsWithoutUnit text.now }
 {
-    let code = code_of(alloc, text)?;
+    let unit = read_unit(alloc, text)?;
+    let code = code_of(alloc, &unit)?;
     let statics = vec![in alloc; 0u8; STATICS]?;
     let image = Image {
         code,

@@ -1,77 +1,77 @@
-//! Forms, read and put out as code.
+//! Forms, put out as code.
 
-ghost use Rattle.std.specs.Prelude.{◌≡◌, ◌<◌, ◌≤◌, ◌+◌, ◌^◌, ◌++◌, length, IfOk, IsErrOf, None};
-ghost use Rattle.orbit_build.specs.Reading.{ReadsAs, literal_at, sum_at, form_at, small_form_at};
-ghost use Rattle.orbit_build.specs.Code.{form_code};
+ghost use Rattle.std.specs.Prelude.{◌≡◌, ◌<◌, ◌≤◌, ◌+◌, IfOk, IfErr, IsErrOf, false};
+ghost use Rattle.t_reader.specs.Grammar.{Tree};
+ghost use Rattle.t_reader.specs.Unit.{Holds, IsWhole, nest};
+ghost use Rattle.t_meaning.specs.Form.{Form};
+ghost use Rattle.orbit_build.specs.Grammar.{IsSmallForm};
+ghost use Rattle.orbit_build.specs.Reading.{AreOperands, BuiltAs, SumBuilt, is_read};
 
+use crate::data::{fixnum_at, operands};
 use crate::emit::{push_add, push_load, push_save, word_of};
 use crate::fault::BuildFault;
-use crate::literal::{read_close, read_literal, read_open, read_plus, skip};
+use t_reader::Unit;
 
-/// A literal.
-fn build_literal<'a>(
-    text: &'a [u8],
-    depth: u32,
-    out: &mut Vec<u8>,
-) -> Result<(u32, &'a [u8]), BuildFault>
-    ensures read { IfOk result (λ s. ReadsAs (literal_at text.now) depth s.0 s.1.now out.old.items out.new.items) }
-    ensures within { IfOk result (λ s. (0 < s.0) × (s.0 + length s.1.now ≤ length text.now)) }
-    ensures unbuilt { IsErrOf result BuildFault.Unbuilt → literal_at text.now ≡ None }
-{
-    let Some((value, rest)) = read_literal(text) else {
-        return Err(BuildFault::Unbuilt);
-    };
-    push_load(out, word_of(value))?;
-    Ok((1, rest))
-}
+/// A form has at most so many literals and sums.
+const MOST_NODES: u32 = 2000;
 
 #[cycle(form)]
-/// A sum behind its opening parenthesis.
-fn build_sum<'a>(
-    text: &'a [u8],
+/// The sum of two operands.
+fn build_sum(
+    unit: &Unit,
+    first: u32,
+    second: u32,
     room: u32,
     depth: u32,
     out: &mut Vec<u8>,
-) -> Result<(u32, &'a [u8]), BuildFault>
-    requires small { length text.now ≤ 2 ^ 20 }
+) -> Result<u32, BuildFault>
+    requires whole { IsWhole unit.now }
     requires slots { depth + room < 400 }
-    ensures read { IfOk result (λ s. ReadsAs (sum_at (form_at room) text.now) depth s.0 s.1.now out.old.items out.new.items) }
-    ensures within { IfOk result (λ s. (0 < s.0) × (s.0 + length s.1.now ≤ length text.now + 1)) }
-    ensures unbuilt { IsErrOf result BuildFault.Unbuilt → sum_at (form_at room) text.now ≡ None }
+    ensures built { IfOk result (λ n. (a b : Tree) → Holds unit.now.names unit.now.nodes.items first a → Holds unit.now.names unit.now.nodes.items second b → SumBuilt a b depth n out.old.items out.new.items) }
+    ensures few { IfOk result (λ n. n ≤ 2000) }
+    ensures unbuilt { IsErrOf result BuildFault.Unbuilt → (a b : Tree) (f g : Form) → Holds unit.now.names unit.now.nodes.items first a → Holds unit.now.names unit.now.nodes.items second b → nest a ≤ room → nest b ≤ room → ¬ AreOperands a b f g }
+    ensures unread { IfErr result (λ e. is_read e ≡ false) }
 {
-    let Some(first) = read_plus(skip(text)) else {
-        return Err(BuildFault::Unbuilt);
-    };
-    let (some, between) = build_form(first, room, depth, out)?;
+    let some = build_form(unit, first, room, depth, out)?;
     push_save(out, depth)?;
-    let (more, behind) = build_form(skip(between), room, depth + 1, out)?;
+    let more = build_form(unit, second, room, depth + 1, out)?;
     push_add(out, depth)?;
-    let Some(rest) = read_close(skip(behind)) else {
-        return Err(BuildFault::Unbuilt);
-    };
-    Ok((some + more + 1, rest))
-}
-
-#[cycle(form)]
-/// The form at the front of a text, in which so many parentheses may be open at once, under so many sums whose second operand
-/// it is part of: its literals and sums, and what stands behind it.
-pub fn build_form<'a>(
-    text: &'a [u8],
-    room: u32,
-    depth: u32,
-    out: &mut Vec<u8>,
-) -> Result<(u32, &'a [u8]), BuildFault>
-    requires small { length text.now ≤ 2 ^ 20 }
-    requires slots { depth + room ≤ 400 }
-    ensures read { IfOk result (λ s. ReadsAs (form_at room text.now) depth s.0 s.1.now out.old.items out.new.items) }
-    ensures within { IfOk result (λ s. (0 < s.0) × (s.0 + length s.1.now ≤ length text.now)) }
-    ensures unbuilt { IsErrOf result BuildFault.Unbuilt → form_at room text.now ≡ None }
-{
-    let Some(inner) = read_open(text) else {
-        return build_literal(text, depth, out);
-    };
-    if room == 0 {
+    if some + more >= MOST_NODES {
         return Err(BuildFault::Unbuilt);
     }
-    build_sum(inner, room - 1, depth, out)
+    Ok(some + more + 1)
+}
+
+#[cycle(form)]
+/// The form at a place, in which at most so many sums are open at once, under so many sums whose second operand it is part of:
+/// its literals and sums.
+pub fn build_form(
+    unit: &Unit,
+    key: u32,
+    room: u32,
+    depth: u32,
+    out: &mut Vec<u8>,
+) -> Result<u32, BuildFault>
+    requires whole { IsWhole unit.now }
+    requires slots { depth + room ≤ 400 }
+    ensures built { IfOk result (λ n. (t : Tree) → Holds unit.now.names unit.now.nodes.items key t → BuiltAs t depth n out.old.items out.new.items) }
+    ensures few { IfOk result (λ n. n ≤ 2000) }
+    ensures unbuilt { IsErrOf result BuildFault.Unbuilt → (t : Tree) (f : Form) → Holds unit.now.names unit.now.nodes.items key t → nest t ≤ room → ¬ IsSmallForm t f }
+    ensures unread { IfErr result (λ e. is_read e ≡ false) }
+{
+    match fixnum_at(unit, key) {
+        Some(value) => {
+            push_load(out, word_of(value))?;
+            Ok(1)
+        }
+        None => match operands(unit, key) {
+            Some((first, second)) => {
+                if room == 0 {
+                    return Err(BuildFault::Unbuilt);
+                }
+                build_sum(unit, first, second, room - 1, depth, out)
+            }
+            None => Err(BuildFault::Unbuilt),
+        },
+    }
 }

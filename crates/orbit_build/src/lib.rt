@@ -1,13 +1,13 @@
-//! From the bytes of a text to the bytes of its image. So far the texts that are built are lists of literals and sums: a form
-//! is read from the front, and its code is put out as it is read.
+//! From the bytes of a text to the bytes of its image. The reader gives the data of the text; so far the units that are
+//! built are those whose data are literals and sums. The code of each form is put out as its nodes are visited.
 #![tactic(auto)]
 
 mod build;
+mod data;
 mod emit;
 mod fault;
 mod form;
-mod literal;
-mod text;
+mod unit;
 
 pub use build::compile;
 pub use fault::BuildFault;
