@@ -1,5 +1,5 @@
 -- The form that a datum stands for.
-use Rattle.std.proofs.Common.{◌≡◌, ℕ, ◌+◌, ◌≤◌, ◌<◌, true, List, [], ◌∷◌, ◌++◌, Option, Some, None, refl, sym, ap, ◌∙◌, subst, arith, append_assoc}
+use Rattle.std.proofs.Common.{◌≡◌, ℕ, ◌+◌, ◌≤◌, List, ◌++◌, Some, None, refl, sym, ap, ◌∙◌, subst, arith}
 use Rattle.std.specs.Prelude.{ℤ, max, codes, Result, Ok, Err, IfOk}
 use Rattle.orbit_build.specs.declared.fault.BuildFault.{BuildFault}
 use Rattle.std.proofs.Math.Nat.{max-le, le-max_left, le-max_right}
@@ -9,10 +9,10 @@ use Rattle.t_reader.specs.Grammar.{fix, nil, symbol, Tree, leaf, pair}
 use Rattle.t_reader.specs.Unit.{Holds, nest}
 use Rattle.m68020_code.specs.Table.{spelling}
 use Rattle.t_meaning.specs.Form.{Form, Literal, Sum}
-use Rattle.orbit_build.specs.Code.{word, load, save, add_saved, bytes_of, form_code}
-use Rattle.orbit_build.specs.Grammar.{IsAddition, IsForm, IsSmallForm, form_nodes, most_nodes}
+use Rattle.orbit_build.specs.Code.{word, load}
+use Rattle.orbit_build.specs.Grammar.{IsAddition, IsForm, IsSmallForm, form_nodes}
 use Rattle.orbit_build.specs.Reading.{datum_at, as_fixnum, Places, operands_at, AreOperands, BuiltAs, SumBuilt}
-use Rattle.orbit_build.proofs.Parts.{none_some, Operands, Summed, fixnum_again, fixnum_takes, operands_again, operands_take}
+use Rattle.orbit_build.proofs.Parts.{none_some, fixnum_again, fixnum_takes, operands_again, operands_take}
 use Rattle.orbit_build.proofs.FormRuns.{nesting}
 
 -- ---- one form at most

@@ -1,6 +1,5 @@
 -- The code of a built text is short enough for an image.
-use Rattle.std.proofs.Common.{◌≡◌, ℕ, ◌+◌, ◌*◌, ◌%◌, ◌^◌, ◌≤◌, true, List, [], ◌∷◌, ◌++◌, length, Some, refl, sym, ap, subst, arith}
-use Rattle.std.specs.Prelude.{slice_get}
+use Rattle.std.proofs.Common.{◌≡◌, ℕ, ◌+◌, ◌*◌, ◌%◌, ◌^◌, ◌≤◌, true, List, [], ◌∷◌, ◌++◌, length, refl, ap, subst, arith}
 use Rattle.std.proofs.lemmas.List.{length-append, length-replicate}
 use Rattle.m68020_code.specs.declared.instr.Instr.{Instr}
 use Rattle.m68020_code.specs.declared.instr.Instr.TheVariants.{Trap}
@@ -8,8 +7,7 @@ use Rattle.m68020_code.specs.Table.{spelling}
 use Rattle.m68020_code.proofs.Lengths.{spelling_words}
 use Rattle.image_file.specs.Grammar.{IsImage}
 use Rattle.t_reader.specs.declared.unit.Unit.{Unit as TextUnit}
-use Rattle.t_reader.specs.declared.unit.Datum.TheVariants as data_
-use Rattle.t_reader.specs.Grammar.{Tree, fix, leaf}
+use Rattle.t_reader.specs.Grammar.{Tree}
 use Rattle.t_reader.specs.Unit.{Holds, HoldTrees, IsWhole, node}
 use Rattle.t_meaning.specs.Form.{Form, Literal, Sum, is_fixnum}
 use Rattle.orbit_build.specs.Grammar.{form_nodes, IsForm, AreForms, Spells}
@@ -56,6 +54,7 @@ unit_words : (text : List ℕ) (unit : List Form) → Spells text unit → lengt
 unit_words text unit s le =
     let few = nodes_few text unit s in
     within _ _ _ (omega (arith, few, le)) (both _ _ _ _ (one (load empty_list)) (both _ _ _ _ (forms_words unit) (one (Trap 0))))
+
 pub code_short : (text : List ℕ) (unit : List Form) → Spells text unit → length text ≤ 2 ^ 20 → length (unit_code unit) ≤ 2 ^ 28
 code_short text unit s le = let w = unit_words text unit s le in omega (arith, w.length_is, w.few)
 

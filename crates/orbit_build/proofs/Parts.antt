@@ -1,17 +1,15 @@
 -- What stands at a place, by the datum that the place holds.
-use Rattle.std.proofs.Common.{◌≡◌, ℕ, ◌+◌, Bool, true, false, List, [], ◌∷◌, Option, Some, None, refl, sym, ap, ◌∙◌, subst, arith}
-use Rattle.std.specs.Prelude.{option_map, ℤ, pos, negsuc, ◌==◌, if◌then◌else◌, slice_get, codes}
+use Rattle.std.proofs.Common.{◌≡◌, ℕ, Bool, true, false, List, [], ◌∷◌, Option, Some, None, refl, sym, ap, ◌∙◌, subst, arith}
+use Rattle.std.specs.Prelude.{option_map, ℤ, pos, negsuc, if◌then◌else◌, codes}
 use Rattle.std.proofs.lemmas.Int.{ints}
 use Rattle.std.proofs.lemmas.Bool.Decides.{nat_tests}
 use Rattle.t_base.specs.declared.basics.Span.{Span}
-use Rattle.t_base.specs.declared.basics.Name.{Name}
 use Rattle.t_reader.specs.declared.unit.Datum.{Datum}
 use Rattle.t_reader.specs.declared.unit.Datum.TheVariants as data_
 use Rattle.t_reader.specs.declared.unit.Node.{Node}
-use Rattle.t_reader.specs.declared.unit.Unit.{Unit as TextUnit}
 use Rattle.t_reader.specs.Tokens.{IsFixnum}
 use Rattle.t_reader.specs.Grammar.{Value, fix, char, nil, truth, string, symbol, Tree, leaf, pair}
-use Rattle.t_reader.specs.Unit.{IsValue, Holds, IsWhole, IsWholeDatum, node}
+use Rattle.t_reader.specs.Unit.{Holds}
 use Rattle.t_meaning.specs.Form.{is_fixnum}
 use Rattle.orbit_build.specs.Grammar.{IsAddition}
 use Rattle.orbit_build.specs.Reading.{◌>>=◌, datum_at, as_fixnum, Places, places, as_pair, is_nil, is_plus_text, is_plus_name, is_plus, ended, two_items, summed, operands_at}
