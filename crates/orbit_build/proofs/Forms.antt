@@ -1,5 +1,5 @@
 -- The form that a datum stands for.
-use Rattle.std.proofs.Common.{◌≡◌, ℕ, ◌+◌, ◌≤◌, ◌<◌, true, List, [], ◌∷◌, ◌++◌, Option, Some, None, refl, sym, ap, ◌∙◌, subst, arith, append_assoc}
+use Rattle.std.proofs.Common.{◌≡◌, ℕ, ◌+◌, ◌≤◌, List, ◌++◌, Some, None, refl, sym, ap, ◌∙◌, subst, arith}
 use Rattle.std.specs.Prelude.{ℤ, max, codes, Result, Ok, Err, IfOk}
 use Rattle.orbit_build.specs.declared.fault.BuildFault.{BuildFault}
 use Rattle.std.proofs.Math.Nat.{max-le, le-max_left, le-max_right}
@@ -9,10 +9,10 @@ use Rattle.t_reader.specs.Grammar.{fix, nil, symbol, Tree, leaf, pair}
 use Rattle.t_reader.specs.Unit.{Holds, nest}
 use Rattle.m68020_code.specs.Table.{spelling}
 use Rattle.t_meaning.specs.Form.{Form, Literal, Sum}
-use Rattle.orbit_build.specs.Code.{word, load, save, add_saved, bytes_of, form_code}
-use Rattle.orbit_build.specs.Grammar.{IsAddition, IsForm, IsSmallForm, form_nodes, most_nodes}
+use Rattle.orbit_build.specs.Code.{word, load}
+use Rattle.orbit_build.specs.Grammar.{IsAddition, IsForm, IsSmallForm, form_nodes}
 use Rattle.orbit_build.specs.Reading.{datum_at, as_fixnum, Places, operands_at, AreOperands, BuiltAs, SumBuilt}
-use Rattle.orbit_build.proofs.Parts.{none_some, Operands, Summed, fixnum_again, fixnum_takes, operands_again, operands_take}
+use Rattle.orbit_build.proofs.Parts.{none_some, fixnum_again, fixnum_takes, operands_again, operands_take}
 use Rattle.orbit_build.proofs.FormRuns.{nesting}
 
 -- ---- one form at most
@@ -73,31 +73,18 @@ pub literal_built : (names : List (List ℕ)) (nodes : List Node) (key : ℕ) (t
 literal_built names nodes key t depth z old new e code h =
     record { form = Literal z; is_form = fixnum_takes names nodes key t z h (sym e); nodes_are = refl; code = code }
 
-pub sum_built : (names : List (List ℕ)) (nodes : List Node) (key : ℕ) (t : Tree) (p : Places) (depth n : ℕ) (old new : List ℕ) → Some p ≡ operands_at names nodes key → ((a b : Tree) → Holds names nodes p.first a → Holds names nodes p.second b → SumBuilt a b depth n old new) → Holds names nodes key t → BuiltAs t depth n old new
+sum_built : (names : List (List ℕ)) (nodes : List Node) (key : ℕ) (t : Tree) (p : Places) (depth n : ℕ) (old new : List ℕ) → Some p ≡ operands_at names nodes key → ((a b : Tree) → Holds names nodes p.first a → Holds names nodes p.second b → SumBuilt a b depth n old new) → Holds names nodes key t → BuiltAs t depth n old new
 sum_built names nodes key t p depth n old new e built h =
     let o = operands_take names nodes key t p h (sym e) in
     let s = built o.x o.y o.first o.second in
     record { form = Sum s.first s.second; is_form = (o.x, o.y, o.addition, s.is_first, s.is_second); nodes_are = s.nodes_are; code = s.code }
 
-pub both_built : (a b : Tree) (depth m n k : ℕ) (old one two three four : List ℕ) → BuiltAs a depth m old one → two ≡ one ++ spelling (save depth) → BuiltAs b (depth + 1) n two three → four ≡ three ++ bytes_of (add_saved depth) → k ≡ m + n + 1 → SumBuilt a b depth k old four
-both_built a b depth m n k old one two three four f saved g added count = record {
-  first = f.form;
-  second = g.form;
-  is_first = f.is_form;
-  is_second = g.is_form;
-  nodes_are = omega (arith, f.nodes_are, g.nodes_are, count);
-  code = added ∙ ap (λ (l : List ℕ). l ++ bytes_of (add_saved depth)) (g.code ∙ ap (λ (l : List ℕ). l ++ form_code (depth + 1) g.form) (saved ∙ ap (λ (l : List ℕ). l ++ spelling (save depth)) f.code))
-      ∙ regrouped old (form_code depth f.form) (spelling (save depth)) (form_code (depth + 1) g.form) (bytes_of (add_saved depth));
-}
-  where
-    regrouped : (o f s g t : List ℕ) → (((o ++ f) ++ s) ++ g) ++ t ≡ o ++ (f ++ (s ++ (g ++ t)))
-    regrouped o f s g t = simp append_assoc
+pub built_where : (names : List (List ℕ)) (nodes : List Node) (key : ℕ) (p : Places) (depth : ℕ) (old new : List ℕ) (r : Result ℕ BuildFault) → Some p ≡ operands_at names nodes key
+    → IfOk r (λ n. (a b : Tree) → Holds names nodes p.first a → Holds names nodes p.second b → SumBuilt a b depth n old new) → IfOk r (λ n. (t : Tree) → Holds names nodes key t → BuiltAs t depth n old new)
+built_where names nodes key p depth old new (Ok n) e built = λ t h. sum_built names nodes key t p depth n old new e built h
+built_where names nodes key p depth old new (Err f) e built = tt
 
 -- ---- where there is no form
-
-some_positive : (f : Form) → 1 ≤ form_nodes f
-some_positive (Literal v) = omega arith
-some_positive (Sum a b) = omega arith
 
 pub neither : (names : List (List ℕ)) (nodes : List Node) (key : ℕ) (t : Tree) (f : Form) → None ≡ as_fixnum (datum_at nodes key) → None ≡ operands_at names nodes key → Holds names nodes key t → IsSmallForm t f → ⊥
 neither names nodes key t (Literal v) e o h k =
@@ -128,20 +115,9 @@ no_sum names nodes key t (Sum a b) p room e none h le k =
     let d = addition_nests t o.x o.y (room + 1) o.addition le in
     none o.x o.y a b o.first o.second (let q = d.1 in omega (arith, q)) (let q = d.2 in omega (arith, q)) (subst (λ (z : Tree). IsForm z a) s.first f.3, subst (λ (z : Tree). IsForm z b) s.second f.4, k.1)
 
-pub no_first : (a b : Tree) (f g : Form) → ((h : Form) → IsSmallForm a h → ⊥) → AreOperands a b f g → ⊥
-no_first a b f g none k = none f (k.0, let q = k.2 in omega (arith, q))
-
-pub no_second : (a b : Tree) (f g : Form) → ((h : Form) → IsSmallForm b h → ⊥) → AreOperands a b f g → ⊥
-no_second a b f g none k = none g (k.1, let q = k.2 in omega (arith, q))
-
 pub too_large : (a b : Tree) (f g : Form) (depth m n : ℕ) (old one two three : List ℕ) → BuiltAs a depth m old one → BuiltAs b (depth + 1) n two three → 2000 ≤ m + n → AreOperands a b f g → ⊥
 too_large a b f g depth m n old one two three x y more k =
     let first : form_nodes x.form ≡ form_nodes f = ap form_nodes (form_once x.form f a x.is_form k.0) in
     let second : form_nodes y.form ≡ form_nodes g = ap form_nodes (form_once y.form g b y.is_form k.1) in
     let few = k.2 in
     absurd (omega (arith, x.nodes_are, y.nodes_are, first, second, few, more))
-
-pub built_where : (names : List (List ℕ)) (nodes : List Node) (key : ℕ) (p : Places) (depth : ℕ) (old new : List ℕ) (r : Result ℕ BuildFault) → Some p ≡ operands_at names nodes key
-    → IfOk r (λ n. (a b : Tree) → Holds names nodes p.first a → Holds names nodes p.second b → SumBuilt a b depth n old new) → IfOk r (λ n. (t : Tree) → Holds names nodes key t → BuiltAs t depth n old new)
-built_where names nodes key p depth old new (Ok n) e built = λ t h. sum_built names nodes key t p depth n old new e built h
-built_where names nodes key p depth old new (Err f) e built = tt

@@ -1,6 +1,6 @@
 -- The code of a built text is short enough for an image.
-use Rattle.std.proofs.Common.{◌≡◌, ℕ, ◌+◌, ◌*◌, ◌%◌, ◌^◌, ◌≤◌, true, List, [], ◌∷◌, ◌++◌, length, Some, refl, sym, ap, subst, arith}
-use Rattle.std.specs.Prelude.{slice_get}
+use Rattle.std.proofs.Common.{◌≡◌, ℕ, ◌+◌, ◌*◌, ◌%◌, ◌^◌, ◌≤◌, true, List, [], ◌∷◌, ◌++◌, length, refl, ap, subst, arith}
+use Rattle.std.specs.Prelude.{ℤ}
 use Rattle.std.proofs.lemmas.List.{length-append, length-replicate}
 use Rattle.m68020_code.specs.declared.instr.Instr.{Instr}
 use Rattle.m68020_code.specs.declared.instr.Instr.TheVariants.{Trap}
@@ -8,9 +8,8 @@ use Rattle.m68020_code.specs.Table.{spelling}
 use Rattle.m68020_code.proofs.Lengths.{spelling_words}
 use Rattle.image_file.specs.Grammar.{IsImage}
 use Rattle.t_reader.specs.declared.unit.Unit.{Unit as TextUnit}
-use Rattle.t_reader.specs.declared.unit.Datum.TheVariants as data_
-use Rattle.t_reader.specs.Grammar.{Tree, fix, leaf}
-use Rattle.t_reader.specs.Unit.{Holds, HoldTrees, IsWhole, node}
+use Rattle.t_reader.specs.Grammar.{Tree}
+use Rattle.t_reader.specs.Unit.{Holds, HoldTrees, IsWhole, IsWholeDatum, node}
 use Rattle.t_meaning.specs.Form.{Form, Literal, Sum, is_fixnum}
 use Rattle.orbit_build.specs.Grammar.{form_nodes, IsForm, AreForms, Spells}
 use Rattle.orbit_build.specs.Code.{word, empty_list, load, save, add_saved, bytes_of, form_code, forms_code, unit_code, statics_bytes, image_of}
@@ -56,6 +55,7 @@ unit_words : (text : List ℕ) (unit : List Form) → Spells text unit → lengt
 unit_words text unit s le =
     let few = nodes_few text unit s in
     within _ _ _ (omega (arith, few, le)) (both _ _ _ _ (one (load empty_list)) (both _ _ _ _ (forms_words unit) (one (Trap 0))))
+
 pub code_short : (text : List ℕ) (unit : List Form) → Spells text unit → length text ≤ 2 ^ 20 → length (unit_code unit) ≤ 2 ^ 28
 code_short text unit s le = let w = unit_words text unit s le in omega (arith, w.length_is, w.few)
 
@@ -81,11 +81,11 @@ is_image text unit s le =
 -- ---- what is known of the forms of a built text
 
 module _ (u : TextUnit) (w : IsWhole u) where
-  literal_small : (key : ℕ) (t : Tree) (v : _) (h : Holds u.names u.nodes.items key t) → IsForm t (Literal v) → is_fixnum v ≡ true
+  literal_small : (key : ℕ) (t : Tree) (v : ℤ) (h : Holds u.names u.nodes.items key t) → IsForm t (Literal v) → is_fixnum v ≡ true
   literal_small key t v h f =
       let k = subst (λ (z : Tree). Holds u.names u.nodes.items key z) f.1 h in
       let whole_ = w.data_whole key (node f.0 k.0) k.1 in
-      fixnum_fits v (subst (λ d. Rattle.t_reader.specs.Unit.IsWholeDatum u.names key d) k.2 whole_)
+      fixnum_fits v (subst (λ d. IsWholeDatum u.names key d) k.2 whole_)
 
   form_fixnums : (f : Form) (key : ℕ) (t : Tree) → Holds u.names u.nodes.items key t → IsForm t f → HasFixnums f
   form_fixnums (Literal v) key t h f = literal_small key t v h f

@@ -1,17 +1,15 @@
 -- What stands at a place, by the datum that the place holds.
-use Rattle.std.proofs.Common.{◌≡◌, ℕ, ◌+◌, Bool, true, false, List, [], ◌∷◌, Option, Some, None, refl, sym, ap, ◌∙◌, subst, arith}
-use Rattle.std.specs.Prelude.{option_map, ℤ, pos, negsuc, ◌==◌, if◌then◌else◌, slice_get, codes}
+use Rattle.std.proofs.Common.{◌≡◌, ℕ, Bool, true, false, List, [], ◌∷◌, Option, Some, None, refl, sym, ap, ◌∙◌, subst, arith}
+use Rattle.std.specs.Prelude.{option_map, ℤ, pos, negsuc, if◌then◌else◌, codes}
 use Rattle.std.proofs.lemmas.Int.{ints}
 use Rattle.std.proofs.lemmas.Bool.Decides.{nat_tests}
 use Rattle.t_base.specs.declared.basics.Span.{Span}
-use Rattle.t_base.specs.declared.basics.Name.{Name}
 use Rattle.t_reader.specs.declared.unit.Datum.{Datum}
 use Rattle.t_reader.specs.declared.unit.Datum.TheVariants as data_
 use Rattle.t_reader.specs.declared.unit.Node.{Node}
-use Rattle.t_reader.specs.declared.unit.Unit.{Unit as TextUnit}
 use Rattle.t_reader.specs.Tokens.{IsFixnum}
 use Rattle.t_reader.specs.Grammar.{Value, fix, char, nil, truth, string, symbol, Tree, leaf, pair}
-use Rattle.t_reader.specs.Unit.{IsValue, Holds, IsWhole, IsWholeDatum, node}
+use Rattle.t_reader.specs.Unit.{Holds}
 use Rattle.t_meaning.specs.Form.{is_fixnum}
 use Rattle.orbit_build.specs.Grammar.{IsAddition}
 use Rattle.orbit_build.specs.Reading.{◌>>=◌, datum_at, as_fixnum, Places, places, as_pair, is_nil, is_plus_text, is_plus_name, is_plus, ended, two_items, summed, operands_at}
@@ -31,14 +29,9 @@ fixnum_fits (negsuc n) h = grind (arith, nat_tests, ints, h.0, h.1)
 -- ---- the datum at a place
 
 module _ (names : List (List ℕ)) (nodes : List Node) where
-  -- a leaf is that datum
-  pub record Leaf (key : ℕ) (v : Value) : Type 0 where
-    pub datum : Datum
-    pub at : datum_at nodes key ≡ Some datum
-    pub means : IsValue names datum v
-
-  pub leaf_at : (key : ℕ) (s : Span) (v : Value) → Holds names nodes key (leaf s v) → Leaf key v
-  leaf_at key s v h = record { datum = h.0; at = ap (λ (o : Option Node). option_map (λ n. n.datum) o) h.1; means = h.2 }
+  -- what is said of a place is said of its datum
+  says : {A : Type 0} (f : Option Datum → A) (key : ℕ) (s : Span) (v : Value) (d : Datum) (h : Holds names nodes key (leaf s v)) → h.0 ≡ d → f (datum_at nodes key) ≡ f (Some d)
+  says f key s v d h e = ap (λ (o : Option Node). f (option_map (λ n. n.datum) o)) h.1 ∙ ap (λ (x : Datum). f (Some x)) e
 
   -- a pair, by its two parts
   pub record Pair (key : ℕ) (x y : Tree) : Type 0 where
@@ -53,15 +46,15 @@ module _ (names : List (List ℕ)) (nodes : List Node) where
   -- ---- fixnums
 
   pub fixnum_again : (key : ℕ) (s : Span) (z : ℤ) → Holds names nodes key (leaf s (fix z)) → as_fixnum (datum_at nodes key) ≡ Some z
-  fixnum_again key s z h = let l = leaf_at key s (fix z) h in ap as_fixnum l.at ∙ ap (λ (d : Datum). as_fixnum (Some d)) l.means
+  fixnum_again key s z h = says as_fixnum key s (fix z) (data_.Fix z) h h.2
 
   leaf_fixnum : (key : ℕ) (s : Span) (v : Value) (z : ℤ) → Holds names nodes key (leaf s v) → as_fixnum (datum_at nodes key) ≡ Some z → v ≡ fix z
   leaf_fixnum key s (fix w) z h e = let same : Some w ≡ Some z = sym (fixnum_again key s w h) ∙ e in cc
-  leaf_fixnum key s (char c) z h e = let l = leaf_at key s (char c) h in absurd (none_some z (sym (ap as_fixnum l.at ∙ ap (λ (d : Datum). as_fixnum (Some d)) l.means) ∙ e))
-  leaf_fixnum key s nil z h e = let l = leaf_at key s nil h in absurd (none_some z (sym (ap as_fixnum l.at ∙ ap (λ (d : Datum). as_fixnum (Some d)) l.means) ∙ e))
-  leaf_fixnum key s truth z h e = let l = leaf_at key s truth h in absurd (none_some z (sym (ap as_fixnum l.at ∙ ap (λ (d : Datum). as_fixnum (Some d)) l.means) ∙ e))
-  leaf_fixnum key s (string bytes) z h e = let l = leaf_at key s (string bytes) h in absurd (none_some z (sym (ap as_fixnum l.at ∙ ap (λ (d : Datum). as_fixnum (Some d)) l.means) ∙ e))
-  leaf_fixnum key s (symbol bytes) z h e = let l = leaf_at key s (symbol bytes) h in absurd (none_some z (sym (ap as_fixnum l.at ∙ ap (λ (d : Datum). as_fixnum (Some d)) l.means.1) ∙ e))
+  leaf_fixnum key s (char c) z h e = absurd (none_some z (sym (says as_fixnum key s (char c) (data_.Char c) h h.2) ∙ e))
+  leaf_fixnum key s nil z h e = absurd (none_some z (sym (says as_fixnum key s nil data_.Nil h h.2) ∙ e))
+  leaf_fixnum key s truth z h e = absurd (none_some z (sym (says as_fixnum key s truth data_.True h h.2) ∙ e))
+  leaf_fixnum key s (string bytes) z h e = absurd (none_some z (sym (says as_fixnum key s (string bytes) (data_.Str bytes) h h.2) ∙ e))
+  leaf_fixnum key s (symbol bytes) z h e = absurd (none_some z (sym (says as_fixnum key s (symbol bytes) (data_.Sym h.2.0) h h.2.1) ∙ e))
 
   pair_fixnum : (key : ℕ) (s : Span) (x y : Tree) (z : ℤ) → Holds names nodes key (pair s x y) → as_fixnum (datum_at nodes key) ≡ Some z → ⊥
   pair_fixnum key s x y z h e = none_some z (sym (ap (λ (o : Option Node). as_fixnum (option_map (λ n. n.datum) o)) h.2) ∙ e)
@@ -73,12 +66,12 @@ module _ (names : List (List ℕ)) (nodes : List Node) where
   -- ---- pairs
 
   leaf_pair : (key : ℕ) (s : Span) (v : Value) (p : Places) → Holds names nodes key (leaf s v) → as_pair (datum_at nodes key) ≡ Some p → ⊥
-  leaf_pair key s (fix w) p h e = let l = leaf_at key s (fix w) h in none_some p (sym (ap as_pair l.at ∙ ap (λ (d : Datum). as_pair (Some d)) l.means) ∙ e)
-  leaf_pair key s (char c) p h e = let l = leaf_at key s (char c) h in none_some p (sym (ap as_pair l.at ∙ ap (λ (d : Datum). as_pair (Some d)) l.means) ∙ e)
-  leaf_pair key s nil p h e = let l = leaf_at key s nil h in none_some p (sym (ap as_pair l.at ∙ ap (λ (d : Datum). as_pair (Some d)) l.means) ∙ e)
-  leaf_pair key s truth p h e = let l = leaf_at key s truth h in none_some p (sym (ap as_pair l.at ∙ ap (λ (d : Datum). as_pair (Some d)) l.means) ∙ e)
-  leaf_pair key s (string bytes) p h e = let l = leaf_at key s (string bytes) h in none_some p (sym (ap as_pair l.at ∙ ap (λ (d : Datum). as_pair (Some d)) l.means) ∙ e)
-  leaf_pair key s (symbol bytes) p h e = let l = leaf_at key s (symbol bytes) h in none_some p (sym (ap as_pair l.at ∙ ap (λ (d : Datum). as_pair (Some d)) l.means.1) ∙ e)
+  leaf_pair key s (fix w) p h e = none_some p (sym (says as_pair key s (fix w) (data_.Fix w) h h.2) ∙ e)
+  leaf_pair key s (char c) p h e = none_some p (sym (says as_pair key s (char c) (data_.Char c) h h.2) ∙ e)
+  leaf_pair key s nil p h e = none_some p (sym (says as_pair key s nil data_.Nil h h.2) ∙ e)
+  leaf_pair key s truth p h e = none_some p (sym (says as_pair key s truth data_.True h h.2) ∙ e)
+  leaf_pair key s (string bytes) p h e = none_some p (sym (says as_pair key s (string bytes) (data_.Str bytes) h h.2) ∙ e)
+  leaf_pair key s (symbol bytes) p h e = none_some p (sym (says as_pair key s (symbol bytes) (data_.Sym h.2.0) h h.2.1) ∙ e)
 
   -- the tree at a place where a pair was found
   pub record Paired (p : Places) (t : Tree) : Type 0 where
@@ -102,15 +95,15 @@ module _ (names : List (List ℕ)) (nodes : List Node) where
   -- ---- the empty list
 
   pub nil_again : (key : ℕ) (s : Span) → Holds names nodes key (leaf s nil) → is_nil (datum_at nodes key) ≡ true
-  nil_again key s h = let l = leaf_at key s nil h in ap is_nil l.at ∙ ap (λ (d : Datum). is_nil (Some d)) l.means
+  nil_again key s h = says is_nil key s nil data_.Nil h h.2
 
   leaf_nil : (key : ℕ) (s : Span) (v : Value) → Holds names nodes key (leaf s v) → is_nil (datum_at nodes key) ≡ true → v ≡ nil
   leaf_nil key s nil h e = refl
-  leaf_nil key s (fix w) h e = let l = leaf_at key s (fix w) h in absurd (both _ e (ap is_nil l.at ∙ ap (λ (d : Datum). is_nil (Some d)) l.means))
-  leaf_nil key s (char c) h e = let l = leaf_at key s (char c) h in absurd (both _ e (ap is_nil l.at ∙ ap (λ (d : Datum). is_nil (Some d)) l.means))
-  leaf_nil key s truth h e = let l = leaf_at key s truth h in absurd (both _ e (ap is_nil l.at ∙ ap (λ (d : Datum). is_nil (Some d)) l.means))
-  leaf_nil key s (string bytes) h e = let l = leaf_at key s (string bytes) h in absurd (both _ e (ap is_nil l.at ∙ ap (λ (d : Datum). is_nil (Some d)) l.means))
-  leaf_nil key s (symbol bytes) h e = let l = leaf_at key s (symbol bytes) h in absurd (both _ e (ap is_nil l.at ∙ ap (λ (d : Datum). is_nil (Some d)) l.means.1))
+  leaf_nil key s (fix w) h e = absurd (both _ e (says is_nil key s (fix w) (data_.Fix w) h h.2))
+  leaf_nil key s (char c) h e = absurd (both _ e (says is_nil key s (char c) (data_.Char c) h h.2))
+  leaf_nil key s truth h e = absurd (both _ e (says is_nil key s truth data_.True h h.2))
+  leaf_nil key s (string bytes) h e = absurd (both _ e (says is_nil key s (string bytes) (data_.Str bytes) h h.2))
+  leaf_nil key s (symbol bytes) h e = absurd (both _ e (says is_nil key s (symbol bytes) (data_.Sym h.2.0) h h.2.1))
 
   pub nil_takes : (key : ℕ) (t : Tree) → Holds names nodes key t → is_nil (datum_at nodes key) ≡ true → (s : Span) × (t ≡ leaf s nil)
   nil_takes key (leaf s v) h e = (s, ap (leaf s) (leaf_nil key s v h e))
@@ -124,20 +117,18 @@ module _ (names : List (List ℕ)) (nodes : List Node) where
   plus_name (b ∷ c ∷ bs) e = absurd (both _ e refl)
 
   is_plus_of : (key : ℕ) (s : Span) (bytes : List ℕ) → Holds names nodes key (leaf s (symbol bytes)) → is_plus names (datum_at nodes key) ≡ is_plus_text bytes
-  is_plus_of key s bytes h =
-      let l = leaf_at key s (symbol bytes) h in
-      ap (is_plus names) l.at ∙ ap (λ (d : Datum). is_plus names (Some d)) l.means.1 ∙ ap is_plus_name l.means.2
+  is_plus_of key s bytes h = says (is_plus names) key s (symbol bytes) (data_.Sym h.2.0) h h.2.1 ∙ ap is_plus_name h.2.2
 
   pub plus_again : (key : ℕ) (s : Span) → Holds names nodes key (leaf s (symbol (codes "+"))) → is_plus names (datum_at nodes key) ≡ true
   plus_again key s h = is_plus_of key s (codes "+") h
 
   leaf_plus : (key : ℕ) (s : Span) (v : Value) → Holds names nodes key (leaf s v) → is_plus names (datum_at nodes key) ≡ true → v ≡ symbol (codes "+")
   leaf_plus key s (symbol bytes) h e = ap (λ (l : List ℕ). symbol l) (plus_name bytes (sym (is_plus_of key s bytes h) ∙ e))
-  leaf_plus key s nil h e = let l = leaf_at key s nil h in absurd (both _ e (ap (is_plus names) l.at ∙ ap (λ (d : Datum). is_plus names (Some d)) l.means))
-  leaf_plus key s (fix w) h e = let l = leaf_at key s (fix w) h in absurd (both _ e (ap (is_plus names) l.at ∙ ap (λ (d : Datum). is_plus names (Some d)) l.means))
-  leaf_plus key s (char c) h e = let l = leaf_at key s (char c) h in absurd (both _ e (ap (is_plus names) l.at ∙ ap (λ (d : Datum). is_plus names (Some d)) l.means))
-  leaf_plus key s truth h e = let l = leaf_at key s truth h in absurd (both _ e (ap (is_plus names) l.at ∙ ap (λ (d : Datum). is_plus names (Some d)) l.means))
-  leaf_plus key s (string bytes) h e = let l = leaf_at key s (string bytes) h in absurd (both _ e (ap (is_plus names) l.at ∙ ap (λ (d : Datum). is_plus names (Some d)) l.means))
+  leaf_plus key s nil h e = absurd (both _ e (says (is_plus names) key s nil data_.Nil h h.2))
+  leaf_plus key s (fix w) h e = absurd (both _ e (says (is_plus names) key s (fix w) (data_.Fix w) h h.2))
+  leaf_plus key s (char c) h e = absurd (both _ e (says (is_plus names) key s (char c) (data_.Char c) h h.2))
+  leaf_plus key s truth h e = absurd (both _ e (says (is_plus names) key s truth data_.True h h.2))
+  leaf_plus key s (string bytes) h e = absurd (both _ e (says (is_plus names) key s (string bytes) (data_.Str bytes) h h.2))
 
   pub plus_takes : (key : ℕ) (t : Tree) → Holds names nodes key t → is_plus names (datum_at nodes key) ≡ true → (s : Span) × (t ≡ leaf s (symbol (codes "+")))
   plus_takes key (leaf s v) h e = (s, ap (leaf s) (leaf_plus key s v h e))
@@ -171,6 +162,16 @@ module _ (names : List (List ℕ)) (nodes : List Node) where
   given true o y e = record { holds = refl; same = e }
   given false o y e = absurd (none_some y e)
 
+  addition_of : (t u v head last x y : Tree) (s1 s2 s3 s4 s5 : Span) → t ≡ pair s1 head u → head ≡ leaf s2 (symbol (codes "+")) → u ≡ pair s3 x v → v ≡ pair s4 y last → last ≡ leaf s5 nil → IsAddition t x y
+  addition_of t u v head last x y s1 s2 s3 s4 s5 a b c d e = record {
+    whole = s1;
+    plus = s2;
+    behind_plus = s3;
+    behind_first = s4;
+    behind_second = s5;
+    tree_is = a ∙ ap (λ (z : Tree). pair s1 z u) b ∙ ap (λ (z : Tree). pair s1 (leaf s2 (symbol (codes "+"))) z) (c ∙ ap (pair s3 x) (d ∙ ap (pair s4 y) e));
+  }
+
   pub operands_take : (key : ℕ) (t : Tree) (p : Places) → Holds names nodes key t → operands_at names nodes key ≡ Some p → Operands p t
   unfolding operands_at
   operands_take key t p h e =
@@ -188,10 +189,7 @@ module _ (names : List (List ℕ)) (nodes : List Node) where
       record {
         x = b.x;
         y = c.x;
-        addition = record {
-          whole = a.span; plus = plus.0; behind_plus = b.span; behind_first = c.span; behind_second = end_.0;
-          tree_is = a.tree_is ∙ ap (λ (z : Tree). pair a.span z a.y) plus.1 ∙ ap (λ (z : Tree). pair a.span (leaf plus.0 (symbol (codes "+"))) z) (b.tree_is ∙ ap (pair b.span b.x) (c.tree_is ∙ ap (pair c.span c.x) end_.1));
-        };
+        addition = addition_of t a.y b.y a.x c.y b.x c.x a.span plus.0 b.span c.span end_.0 a.tree_is plus.1 b.tree_is c.tree_is end_.1;
         first = subst (λ (q : Places). Holds names nodes q.first b.x) same b.first;
         second = subst (λ (q : Places). Holds names nodes q.second c.x) same c.first;
       }

@@ -1,14 +1,12 @@
 -- Each literal of a text has a token of its own, and each token a byte.
-use Rattle.std.proofs.Common.{◌≡◌, ℕ, ◌+◌, ◌-◌, ◌*◌, ◌<◌, ◌≤◌, List, [], ◌∷◌, ◌++◌, length, refl, sym, ap, ◌∙◌, subst, arith}
-use Rattle.std.specs.Prelude.{max}
-use Rattle.std.proofs.Math.Nat.{max-le}
+use Rattle.std.proofs.Common.{◌≡◌, ℕ, ◌+◌, ◌-◌, ◌*◌, ◌<◌, ◌≤◌, List, [], ◌∷◌, ◌++◌, length, sym, ap, subst, arith}
 use Rattle.std.proofs.lemmas.List.{length-append}
 use Rattle.t_base.specs.declared.basics.Span.{Span}
 use Rattle.t_reader.specs.declared.token.Word.{Word}
 use Rattle.t_reader.specs.declared.token.Word.TheVariants as word
 use Rattle.t_reader.specs.declared.token.Token.{Token}
-use Rattle.t_reader.specs.Tokens.{token_at, MovesBy, Moves}
-use Rattle.t_reader.specs.Grammar.{Value, fix, char, nil, truth, string, symbol, Tree, leaf, pair, Form as Written, Forms, single, listed, dotted, quoted, none, more, token, written, written_all, IsWithin, AllWithin, value, to, span_of, quotation, tree, chain, trees, Begins, AreForms as AreWritten, Reads}
+use Rattle.t_reader.specs.Tokens.{MovesBy, Moves}
+use Rattle.t_reader.specs.Grammar.{Value, fix, char, nil, truth, string, symbol, Tree, leaf, pair, Form as Written, Forms, single, listed, dotted, quoted, none, more, token, written, written_all, IsWithin, AllWithin, value, to, tree, chain, trees, Begins, Reads}
 use Rattle.t_reader.specs.Unit.{nest}
 use Rattle.t_reader.proofs.Moves.{token_at-moves}
 use Rattle.t_meaning.specs.Form.{Form, Literal, Sum}

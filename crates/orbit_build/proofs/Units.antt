@@ -1,12 +1,12 @@
 -- The forms of a unit, one after the other.
-use Rattle.std.proofs.Common.{◌≡◌, ℕ, ◌+◌, ◌≤◌, List, [], ◌∷◌, ◌++◌, Some, None, refl, sym, ap, ◌∙◌, subst, arith, append_assoc, append-nil}
+use Rattle.std.proofs.Common.{◌≡◌, ℕ, ◌≤◌, List, [], ◌∷◌, ◌++◌, Some, None, refl, sym, ap, ◌∙◌, subst, arith, append_assoc, append-nil}
 use Rattle.t_reader.specs.declared.unit.Node.{Node}
 use Rattle.t_reader.specs.Grammar.{Tree}
 use Rattle.t_reader.specs.Unit.{Holds, HoldTrees, nest}
 use Rattle.m68020_code.specs.declared.instr.Instr.TheVariants.{Trap}
 use Rattle.m68020_code.specs.Table.{spelling}
 use Rattle.t_meaning.specs.Form.{Form}
-use Rattle.orbit_build.specs.Code.{load, empty_list, form_code, forms_code, unit_code}
+use Rattle.orbit_build.specs.Code.{load, empty_list, form_code, forms_code}
 use Rattle.orbit_build.specs.Grammar.{IsSmallForm, AreForms}
 use Rattle.orbit_build.proofs.Parts.{none_some}
 use Rattle.orbit_build.specs.Reading.{Parted, parted, first_of, AreShallow, BuiltAs, AllBuilt, UnitBuilt}

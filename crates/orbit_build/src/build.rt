@@ -51,7 +51,7 @@ pub fn compile(alloc: Global, text: &[u8]) -> Result<Vec<u8>, BuildFault>
     requires { length text.now ≤ 2 ^ 20 }
     ensures faithful { IfOk result (λ bytes. Faithful text.now bytes.items) }
     ensures few { IfOk result (λ bytes. length bytes.items ≤ 2 ^ 29) }
-    ensures unread { (kind : ReadKind) (span : Span) → result ≡ Err (BuildFault.Read kind span) → FirstFault text.now (read_fault.Fault kind span) }
+    ensures fault { (kind : ReadKind) (span : Span) → result ≡ Err (BuildFault.Read kind span) → FirstFault text.now (read_fault.Fault kind span) }
     ensures unbuilt { IsErrOf result BuildFault.Unbuilt → ReadsWithoutUnit text.now }
 {
     let unit = read_unit(alloc, text)?;

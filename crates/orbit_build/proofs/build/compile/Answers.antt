@@ -3,7 +3,6 @@ use Rattle.std.specs.Prelude.{replicate}
 use Rattle.image_file.specs.Grammar.{Parts, IsImage, IsImageOf}
 use Rattle.m68020_step.specs.declared.storage.TheConstants.{CODE_START}
 use Rattle.t_reader.specs.Grammar.{trees, Reads}
-use Rattle.t_reader.specs.Unit.{HoldTrees}
 use Rattle.t_reader.proofs.GrammarLaws.{reads_once}
 use Rattle.t_meaning.specs.Form.{Form}
 use Rattle.orbit_build.specs.Code.{unit_code, statics_bytes, image_of}

@@ -1,5 +1,5 @@
 use Rattle.std.proofs.Common.{◌≡◌, ◌+◌, ◌-◌, arith, rules}
-use Rattle.orbit_build.proofs.Forms.{literal_built, sum_built, neither, no_room, no_sum, too_large, built_where}
+use Rattle.orbit_build.proofs.Forms.{literal_built, neither, no_room, no_sum, too_large, built_where}
 use Rattle.orbit_build.proofs.form.+form.Goals as goal
 
 pub build_form-returns-then-room-eq0-clause-unbuilt : goal.build_form-returns-then-room-eq0-clause-unbuilt
