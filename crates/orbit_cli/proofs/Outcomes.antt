@@ -17,10 +17,12 @@ use Rattle.orbit_monitor.specs.Observed.{end_of}
 use Rattle.orbit_monitor.specs.Answering.{Loaded, run_on}
 use Rattle.orbit_cli.specs.declared.status.Status.{Status}
 use Rattle.orbit_cli.specs.declared.status.Status.TheVariants as status
+use Rattle.orbit_cli.specs.declared.prepare.Refusal.{Refusal}
+use Rattle.orbit_cli.specs.declared.prepare.Refusal.TheVariants as refusal
 use Rattle.orbit_cli.specs.Words.{Go}
 use Rattle.orbit_cli.specs.Answer.{Answer, answer, answer_on, end_status, full_status}
 use Rattle.orbit_cli.specs.Outcome.{Outside, IsUntouched, Says, IsCompiled, sizes_of, Ran, IsUnwritten, GoOutcome}
-use Rattle.orbit_cli.specs.Parts.{IsReady, IsAnswered, IsCutOff, IsReported, out_of, err_of, KeepFails, KeepLacksMemory, KeptOutcome}
+use Rattle.orbit_cli.specs.Parts.{IsReady, IsAnswered, IsCutOff, IsReported, out_of, err_of, KeepFails, KeepLacksMemory, KeptOutcome, Refuses, refusal_line, refusal_status}
 
 -- ---- folders
 
@@ -174,3 +176,15 @@ module _ {S E : Type 0} (took : S → List ℕ → S → Type 0) (said : E → L
 
   pub went : (ended : Status) → KeptOutcome took said go.img bytes loaded go.steps mid new ended → GoOutcome took said go old new ended
   went ended h = ⊎_elim (λ r. of_run ended r.kept r.reported) (λ k. ⊎_elim (λ f. of_failed ended f) (λ f. of_no_memory ended f) k) h
+
+-- a text was refused before anything was kept or put
+refused_so : {S E : Type 0} (took : S → List ℕ → S → Type 0) (said : E → List ℕ → E → Type 0) (go : Go) (old new : Outside S E) (r : Refusal) → Refuses old.files go.src (Rose old.fetch_faults new.fetch_faults) r → IsUntouched old new → Says said old new (refusal_line go.src r) → GoOutcome took said go old new (refusal_status r)
+refused_so took said go old new refusal.Unread h u n = record { rose = h; untouched = u; noted = n }
+refused_so took said go old new refusal.Long h u n = record { long = h; untouched = u; noted = n }
+refused_so took said go old new (refusal.Source kind line column) h u n =
+    record { text = h.0; kind = kind; line = line; column = column; fetched = h.1; fault = h.2; untouched = u; noted = n }
+refused_so took said go old new refusal.Unbuilt h u n = record { text = h.0; fetched = h.1; unbuilt = h.2; untouched = u; noted = n }
+refused_so took said go old new refusal.Memory h u n = record { untouched = u; noted = n }
+
+pub refused : {S E : Type 0} (took : S → List ℕ → S → Type 0) (said : E → List ℕ → E → Type 0) (go : Go) (old new : Outside S E) (r : Refusal) (ended : Status) → ended ≡ refusal_status r → Refuses old.files go.src (Rose old.fetch_faults new.fetch_faults) r → IsUntouched old new → Says said old new (refusal_line go.src r) → GoOutcome took said go old new ended
+refused took said go old new r ended is h u n = subst (λ (s : Status). GoOutcome took said go old new s) (sym is) (refused_so took said go old new r h u n)
