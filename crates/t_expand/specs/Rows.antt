@@ -5,7 +5,7 @@ use Rattle.std.specs.Option.{option_map, option_map_or, option_and_then}
 use Rattle.t_base.specs.declared.basics.Span.{Span}
 use Rattle.t_base.specs.declared.basics.Var.{Var}
 use Rattle.t_base.specs.declared.builtins.Builtin.{Builtin}
-use Rattle.t_base.specs.declared.builtins.Builtin.TheVariants as Prim
+use Rattle.t_base.specs.declared.builtins.Builtin.TheVariants as Builtins
 use Rattle.t_prim.specs.Table.{arity_of}
 use Rattle.t_reader.specs.Grammar.{Value, fix, char, nil, truth, string, symbol}
 use Rattle.t_objects.specs.declared.words.Word.{Word}
@@ -139,7 +139,7 @@ if_row s _ = no_row s
 abbrev pub block_row : Span → List Datum → Row
 block_row s [] = no_row s
 block_row s (a ∷ []) = stands_for a
-block_row s as = node block [] (map plain as)
+block_row s ds = node block [] (map plain ds)
 
 -- (catch j B ..)
 abbrev pub catch_row : Span → List Datum → Row
@@ -270,12 +270,12 @@ and_row s [] = stands_for (a_true s)
 and_row s (a ∷ []) = stands_for a
 and_row s (a ∷ others) = stands_for (listed s (word_ s (codes "if") ∷ a ∷ listed s (word_ s (codes "and") ∷ others) ∷ a_nil s ∷ []))
 
--- (let ((u a)) (if u yes no))
+-- (let ((u a)) (if u here there))
 abbrev pub test_answer : Span → Datum → Datum → Datum → Datum
-test_answer s a yes no_ =
+test_answer s a here there =
     listed s
       (word_ s (codes "let") ∷ listed s (listed s (a_variable s answer ∷ a ∷ []) ∷ [])
-        ∷ listed s (word_ s (codes "if") ∷ a_variable s answer ∷ yes ∷ no_ ∷ []) ∷ [])
+        ∷ listed s (word_ s (codes "if") ∷ a_variable s answer ∷ here ∷ there ∷ []) ∷ [])
 
 -- (or), (or a), (or a b ..)
 abbrev pub or_row : Span → List Datum → Row
@@ -326,7 +326,7 @@ key_test s [] = a_nil s
 key_test s (k ∷ keys) =
     listed s
       (word_ s (codes "if")
-        ∷ listed s (a_builtin s Prim.Eq ∷ a_variable s chosen ∷ listed s (word_ s (codes "quote") ∷ k ∷ []) ∷ [])
+        ∷ listed s (a_builtin s Builtins.Eq ∷ a_variable s chosen ∷ listed s (word_ s (codes "quote") ∷ k ∷ []) ∷ [])
         ∷ a_true s ∷ key_test s keys ∷ [])
 
 abbrev pub case_chosen : Span → List Datum → Option Datum → List Datum → Option Datum
@@ -376,9 +376,9 @@ not_settable a es v = node nothing (refusal NotSettable (span_of a) ∷ []) (map
 
 -- the builtin that assigns the place which this one reads
 abbrev pub assigns : Builtin → Option Builtin
-assigns Prim.Car = Some Prim.SetCar
-assigns Prim.Cdr = Some Prim.SetCdr
-assigns Prim.Vref = Some Prim.SetVref
+assigns Builtins.Car = Some Builtins.SetCar
+assigns Builtins.Cdr = Some Builtins.SetCdr
+assigns Builtins.Vref = Some Builtins.SetVref
 assigns _ = None
 
 abbrev pub set_builtin : Span → Datum → List Datum → Datum → Option Builtin → Row
@@ -563,7 +563,7 @@ inner_definition s None = node nothing (refusal BadForm s ∷ refusal NotTopLeve
 -- ---- calls
 
 abbrev pub call_node : Datum → List Datum → Row
-call_node f as = node call [] (plain f ∷ map plain as)
+call_node f ds = node call [] (plain f ∷ map plain ds)
 
 -- (+), (+ a), (+ a b), (+ a b c ..), and alike for *
 abbrev pub fold_row : Span → Builtin → ℕ → List Datum → Row
@@ -574,33 +574,33 @@ fold_row s p unit_ (a ∷ b ∷ others) = stands_for (listed s (a_builtin s p �
 
 -- (p a ..) with as many operands as the builtin takes; with another count it is called as a value
 abbrev pub builtin_row : Datum → Builtin → List Datum → Row
-builtin_row f p as = if length as == arity_of p then node (primitive p) [] (map plain as) else call_node f as
+builtin_row f p ds = if length ds == arity_of p then node (primitive p) [] (map plain ds) else call_node f ds
 
 -- (- a)
 abbrev pub minus_row : Span → Datum → List Datum → Row
-minus_row s f (a ∷ []) = node (primitive Prim.Sub) [] (plain (a_number s 0) ∷ plain a ∷ [])
-minus_row s f as = builtin_row f Prim.Sub as
+minus_row s f (a ∷ []) = node (primitive Builtins.Sub) [] (plain (a_number s 0) ∷ plain a ∷ [])
+minus_row s f ds = builtin_row f Builtins.Sub ds
 
 abbrev pub builtin_call : Span → Datum → List Datum → Builtin → Row
-builtin_call s f as Prim.Add = fold_row s Prim.Add 0 as
-builtin_call s f as Prim.Mul = fold_row s Prim.Mul 1 as
-builtin_call s f as Prim.Sub = minus_row s f as
-builtin_call s f as p = builtin_row f p as
+builtin_call s f ds Builtins.Add = fold_row s Builtins.Add 0 ds
+builtin_call s f ds Builtins.Mul = fold_row s Builtins.Mul 1 ds
+builtin_call s f ds Builtins.Sub = minus_row s f ds
+builtin_call s f ds p = builtin_row f p ds
 
 -- (list), (list a b ..)
 abbrev pub list_row : Span → List Datum → Row
 list_row s [] = stands_for (a_nil s)
-list_row s (a ∷ others) = node (primitive Prim.Cons) [] (plain a ∷ plain (listed s (atom s listing ∷ others)) ∷ [])
+list_row s (a ∷ others) = node (primitive Builtins.Cons) [] (plain a ∷ plain (listed s (atom s listing ∷ others)) ∷ [])
 
 abbrev pub call_meant : Span → Datum → List Datum → Option Meaning → Row
-call_meant s f as (Some (the_builtin p)) = builtin_call s f as p
-call_meant s f as (Some the_listing) = list_row s as
-call_meant s f as _ = call_node f as
+call_meant s f ds (Some (the_builtin p)) = builtin_call s f ds p
+call_meant s f ds (Some the_listing) = list_row s ds
+call_meant s f ds _ = call_node f ds
 
 abbrev pub call_row : Scope → Span → Datum → List Datum → Row
-call_row scope s (atom t (builtin p)) as = builtin_call s (atom t (builtin p)) as p
-call_row scope s (atom t listing) as = list_row s as
-call_row scope s f as = call_meant s f as (meant scope f)
+call_row scope s (atom t (builtin p)) ds = builtin_call s (atom t (builtin p)) ds p
+call_row scope s (atom t listing) ds = list_row s ds
+call_row scope s f ds = call_meant s f ds (meant scope f)
 
 -- ---- the table
 

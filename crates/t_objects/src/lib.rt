@@ -3,6 +3,8 @@
 //! `specs/Operations.antt`.
 #![tactic(auto)]
 
+mod operations;
 mod words;
 
+pub use crate::operations::{OpTable, resolve_ops};
 pub use crate::words::{Word, word_of};
