@@ -1,7 +1,7 @@
 -- Data as lists, and the names in them.
-use Rattle.std.specs.Prelude.{◌≡◌, ℕ, ◌<◌, Bool, true, false, not, ◌&&◌, ◌||◌, is_none, is_some, List, slice_get, Option, Some, None, if◌then◌else◌}
+use Rattle.std.specs.Prelude.{◌≡◌, ℕ, ◌<◌, Bool, true, false, not, ◌&&◌, ◌||◌, is_some, List, slice_get, Option, Some, None}
 use Rattle.t_base.specs.declared.basics.Name.{Name}
-use Rattle.t_reader.specs.Grammar.{Tree, leaf, pair, Value, nil, symbol}
+use Rattle.t_reader.specs.Grammar.{Tree, leaf, pair, nil, symbol}
 use Rattle.t_reader.specs.Unit.{Holds}
 use Rattle.t_reader.specs.declared.unit.Node.{Node}
 use Rattle.t_objects.specs.declared.words.Word.{Word}

@@ -1,7 +1,6 @@
 -- The operations that a unit defines.
-use Rattle.std.specs.Prelude.{◌≡◌, ℕ, Bool, true, false, not, ◌&&◌, List, [], ◌∷◌, ◌++◌, ◌==◌, fold, map, slice_get, is_some, Option, Some, None, if◌then◌else◌}
+use Rattle.std.specs.Prelude.{◌≡◌, ℕ, ◌<◌, length, Bool, true, false, not, ◌&&◌, List, [], ◌∷◌, ◌++◌, ◌==◌, fold, slice_get, Option, Some, None, if◌then◌else◌}
 use Rattle.std.specs.List.{list_any}
-use Rattle.std.specs.Option.{option_map}
 use Rattle.t_base.specs.declared.basics.Name.{Name}
 use Rattle.t_base.specs.declared.shared_parts.OpInfo.{OpInfo}
 use Rattle.t_reader.specs.Grammar.{Tree, leaf, pair}
@@ -71,10 +70,34 @@ abbrev pub has_name : ℕ → List OpInfo → Bool
 has_name n infos = list_any (λ o. o.name.0 == n) infos
 
 -- with an entry put last, if its name is new
+abbrev pub with_one : List OpInfo → OpInfo → List OpInfo
+with_one infos o = if has_name o.name.0 infos then infos else infos ++ o ∷ []
+
 abbrev pub with_entry : List OpInfo → Option OpInfo → List OpInfo
 with_entry infos None = infos
-with_entry infos (Some o) = if has_name o.name.0 infos then infos else infos ++ o ∷ []
+with_entry infos (Some o) = with_one infos o
 
 -- the first entry of each name
 abbrev pub distinct : List (Option OpInfo) → List OpInfo
 distinct infos = fold with_entry [] infos
+
+-- the table of a unit with these data: the builtin operations, then the first entry of each name
+pub record IsTableOf (names : List (List ℕ)) (trees : List Tree) (ops : List OpInfo) : Type 0 where
+  pub infos : List (Option OpInfo)
+  pub entries : AreEntries names trees infos
+  pub table : ops ≡ builtin_entries ++ distinct infos
+
+-- ---- how the table is made
+
+-- the marks say which names have an entry
+abbrev pub Marks : List Bool → List OpInfo → Type 0
+Marks found infos = (k : ℕ) → k < length found → slice_get found k ≡ Some (has_name k infos)
+
+-- the operation's name has a mark
+abbrev pub IsMarked : List Bool → Option OpInfo → Type 0
+IsMarked found None = Unit {0}
+IsMarked found (Some o) = o.name.0 < length found
+
+pub record IsAdded (ops : List OpInfo) (found : List Bool) (infos : List OpInfo) : Type 0 where
+  pub table : ops ≡ builtin_entries ++ infos
+  pub marks : Marks found infos

@@ -1,11 +1,11 @@
 //! The operations that a unit defines.
 
-ghost use Rattle.std.specs.Prelude.{◌≡◌, ◌++◌, List, ℕ, Option, length, IfOk};
+ghost use Rattle.std.specs.Prelude.{◌≡◌, ◌<◌, ◌++◌, List, ℕ, Option, false, replicate, slice_get, length, IfOk, OnOk};
 ghost use Rattle.t_base.specs.declared.shared_parts.OpInfo.{OpInfo};
 ghost use Rattle.t_reader.specs.Grammar.{Tree};
 ghost use Rattle.t_reader.specs.Unit.{Holds, HoldTrees};
 ghost use Rattle.t_objects.specs.Lists.{ArePartsOf, IsPlaceOf, symbol_of, is_nil, word_of, name_of, is_list_of};
-ghost use Rattle.t_objects.specs.Operations.{IsEntry, AreEntries, is_pair, is_operation_row, operation_if, operation_with, operation_behind, defines_operation, operation_of, builtin_entries, distinct};
+ghost use Rattle.t_objects.specs.Operations.{IsEntry, is_pair, is_operation_row, operation_if, operation_with, operation_behind, defines_operation, operation_of, builtin_entries, with_one, with_entry, Marks, IsMarked, IsAdded, IsTableOf};
 
 use crate::words::{Word, word_of};
 use std::alloc::Global;
@@ -107,7 +107,9 @@ fn is_list(unit: &Unit, key: u32, names: bool) -> bool
 fn is_operation_row(unit: &Unit, params: u32, body: u32) -> bool
     ensures { (p : Tree) (b : Tree) → Holds unit.now.names unit.now.nodes.items params p → Holds unit.now.names unit.now.nodes.items body b → result ≡ is_operation_row p b }
 {
-    is_pair(unit.nodes.as_slice(), params) && is_list(unit, params, true) && is_list(unit, body, false)
+    is_pair(unit.nodes.as_slice(), params)
+        && is_list(unit, params, true)
+        && is_list(unit, body, false)
 }
 
 fn operation_if(row: bool, default: bool, name: Option<Name>) -> Option<OpInfo>
@@ -132,7 +134,11 @@ fn operation_with(unit: &Unit, head: u32, body: u32) -> Option<OpInfo>
     let is_last = is_nil(unit.nodes.as_slice(), body);
     match parts(unit.nodes.as_slice(), head) {
         None => operation_if(is_last, false, name_at(unit, head)),
-        Some((op, params)) => operation_if(is_operation_row(unit, params, body), !is_last, name_at(unit, op)),
+        Some((op, params)) => operation_if(
+            is_operation_row(unit, params, body),
+            !is_last,
+            name_at(unit, op),
+        ),
     }
 }
 
@@ -171,25 +177,75 @@ fn operation_of(unit: &Unit, form: u32) -> Option<OpInfo>
     }
 }
 
-/// The operations of the unit. It refuses nothing.
-pub fn resolve_ops(alloc: Global, unit: &Unit) -> Result<OpTable, Memory> {
-    let mut ops = Vec::new(alloc);
-    'builtins: for n in 0..3 {
-        ops.push(OpInfo {
-            name: Name(n),
-            default: false,
-        })?;
-    }
-    let count = unit.names.count() as usize;
-    let mut seen = vec![in alloc; false; count]?;
-    'forms: for form in &unit.forms {
-        if let Some(op) = operation_of(unit, *form) {
-            let at = op.name.0 as usize;
-            if at < seen.len() && !seen[at] {
-                seen[at] = true;
-                ops.push(op)?;
-            }
+fn mark_at(found: &[bool], at: usize) -> Option<bool>
+    ensures { result ≡ slice_get found.now at }
+{
+    found.get(at).copied()
+}
+
+/// Puts an operation last, if its name is new.
+fn add(ops: &mut Vec<OpInfo>, found: &mut Vec<bool>, op: OpInfo) -> Result<(), Memory>
+    ensures added { (infos : List OpInfo) → ops.old.items ≡ builtin_entries ++ infos → Marks found.old.items infos → op.name.0 < length found.old.items → OnOk result (IsAdded ops.new.items found.new.items (with_one infos op)) }
+    ensures room { length found.new.items ≡ length found.old.items }
+{
+    let at = op.name.0 as usize;
+    match mark_at(found.as_slice(), at) {
+        None => Ok(()),
+        Some(true) => Ok(()),
+        Some(false) => {
+            found[at] = true;
+            ops.push(op)?;
+            Ok(())
         }
+    }
+}
+
+fn add_found(ops: &mut Vec<OpInfo>, found: &mut Vec<bool>, op: Option<OpInfo>) -> Result<(), Memory>
+    ensures added { (infos : List OpInfo) → ops.old.items ≡ builtin_entries ++ infos → Marks found.old.items infos → IsMarked found.old.items op → OnOk result (IsAdded ops.new.items found.new.items (with_entry infos op)) }
+    ensures room { length found.new.items ≡ length found.old.items }
+{
+    match op {
+        None => Ok(()),
+        Some(op) => add(ops, found, op),
+    }
+}
+
+fn no_marks(alloc: Global, count: usize) -> Result<Vec<bool>, Memory>
+    ensures { IfOk result (λ found. found.items ≡ replicate count false) }
+{
+    let found = vec![in alloc; false; count]?;
+    Ok(found)
+}
+
+fn builtin_table(alloc: Global) -> Result<Vec<OpInfo>, Memory>
+    ensures { IfOk result (λ ops. ops.items ≡ builtin_entries) }
+{
+    let mut ops = Vec::new(alloc);
+    ops.push(OpInfo {
+        name: Name(0),
+        default: false,
+    })?;
+    ops.push(OpInfo {
+        name: Name(1),
+        default: false,
+    })?;
+    ops.push(OpInfo {
+        name: Name(2),
+        default: false,
+    })?;
+    Ok(ops)
+}
+
+/// The operations of the unit: the three that each unit has, then the first of each name that a form defines, in the order of the
+/// forms. It refuses nothing: a form that is no row defines no operation. The only error is the want of memory.
+pub fn resolve_ops(alloc: Global, unit: &Unit) -> Result<OpTable, Memory>
+    ensures { (trees : List Tree) → HoldTrees unit.now.names unit.now.nodes.items unit.now.forms.items trees → IfOk result (λ table. IsTableOf unit.now.names trees table.ops.items) }
+{
+    let mut ops = builtin_table(alloc)?;
+    let mut found = no_marks(alloc, unit.names.count() as usize)?;
+    'forms: for form in &unit.forms {
+        let op = operation_of(unit, *form);
+        add_found(&mut ops, &mut found, op)?;
     }
     Ok(OpTable { ops })
 }

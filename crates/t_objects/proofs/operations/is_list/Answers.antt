@@ -1,4 +1,4 @@
-use Rattle.std.proofs.Common.{◌≡◌, ℕ, ◌<◌, ◌≤◌, arith}
+use Rattle.std.proofs.Common.{◌<◌, arith}
 use Rattle.t_reader.specs.Unit.{Holds}
 use Rattle.t_objects.proofs.PartLemmas.{tail_below}
 use Rattle.t_objects.proofs.operations.is_list.Goals as goal
