@@ -1,10 +1,10 @@
 -- Data as the table of forms reads them: those of the text, with what the rows of the table add.
-use Rattle.std.specs.Prelude.{ℕ, ◌+◌, Bool, true, false, ◌==◌, if◌then◌else◌, is_none, is_some, not, ◌||◌, pos, List, [], ◌∷◌, map, Option, Some, None, codes}
-use Rattle.std.specs.Option.{option_map, option_and_then}
+use Rattle.std.specs.Prelude.{ℕ, Bool, true, false, ◌==◌, if◌then◌else◌, is_none, pos, List, [], ◌∷◌, map, Option, Some, None}
+use Rattle.std.specs.Option.{option_map}
 use Rattle.std.specs.Str.{bytes_eq}
 use Rattle.t_base.specs.declared.basics.Span.{Span}
 use Rattle.t_base.specs.declared.builtins.Builtin.{Builtin}
-use Rattle.t_reader.specs.Grammar.{Tree, leaf, pair, Value, fix, char, nil, truth, string, symbol}
+use Rattle.t_reader.specs.Grammar.{Tree, leaf, pair, Value, fix, nil, truth, symbol}
 use Rattle.t_objects.specs.declared.words.Word.{Word}
 use Rattle.t_objects.specs.Words.{word_named}
 

@@ -1,14 +1,12 @@
 -- The core of a unit: what it is for nodes to be what forms stand for.
-use Rattle.std.specs.Prelude.{◌≡◌, ◌≢◌, ℕ, ◌+◌, Bool, true, false, if◌then◌else◌, IsTrue, is_none, is_some, List, [], ◌∷◌, ◌++◌, map, length, slice_get, All, AllPairs, Option, Some, None}
-use Rattle.std.specs.List.{flat_map, list_any}
+use Rattle.std.specs.Prelude.{◌≡◌, ◌≢◌, ℕ, Bool, false, List, [], ◌∷◌, ◌++◌, map, length, slice_get, AllPairs, Option, Some, None}
+use Rattle.std.specs.List.{flat_map}
 use Rattle.t_base.specs.declared.basics.Span.{Span}
 use Rattle.t_base.specs.declared.basics.Name.{Name as NamePlace}
 use Rattle.t_base.specs.declared.shared_parts.Const.{Const}
 use Rattle.t_base.specs.declared.shared_parts.Const.TheVariants as Constant
 use Rattle.t_base.specs.declared.shared_parts.Shared.{Shared}
-use Rattle.t_base.specs.declared.shared_parts.OpInfo.{OpInfo}
-use Rattle.t_base.specs.declared.shared_parts.Global1.{Global1}
-use Rattle.t_reader.specs.Grammar.{Tree, Value, fix, char, nil, truth, string, symbol}
+use Rattle.t_reader.specs.Grammar.{Tree, fix, char, nil, truth, string, symbol}
 use Rattle.t_core.specs.declared.forms.Core.{Core}
 use Rattle.t_core.specs.declared.forms.Core.TheVariants as Node
 use Rattle.t_core.specs.declared.forms.FormKind.{FormKind}
@@ -18,10 +16,10 @@ use Rattle.t_core.specs.declared.forms.UnitCore.{UnitCore}
 use Rattle.t_core.specs.Nodes.{parts_of}
 use Rattle.t_core.specs.Nodes.{Part as NodePart}
 use Rattle.t_core.specs.Whole.{IsWhole}
-use Rattle.t_expand.specs.Data.{Datum, atom, cons, given, span_of, datum_of, Binder, Name}
+use Rattle.t_expand.specs.Data.{Datum, atom, cons, given, span_of, datum_of}
 use Rattle.t_expand.specs.Names.{Scope, Bound, within}
-use Rattle.t_expand.specs.Rows.{Definition, define, lset, operation_form, Row, stands_for, node, Shape, constant, local, global, builtin_value, op_value, lambda, if_, block, let_, labels, set_local, set_global, catch_, object, call, primitive, nothing, Part, row}
-use Rattle.t_expand.specs.Units.{Top, defining, broken, expression, top_of, tops_of, known_in, definitions_of, Known, a_kept_global, a_kept_op, global_texts, op_texts}
+use Rattle.t_expand.specs.Rows.{Definition, define, lset, operation_form, stands_for, node, Shape, constant, local, global, builtin_value, op_value, lambda, if_, block, let_, labels, set_local, set_global, catch_, object, call, primitive, Part, row}
+use Rattle.t_expand.specs.Units.{Top, defining, broken, expression, tops_of, known_in, definitions_of, Known, a_kept_global, a_kept_op, global_texts, op_texts}
 
 -- ---- constants
 
@@ -74,13 +72,13 @@ mutual
   pub data Means (shared : Shared) (n : Nodes) : Scope → Datum → Bool → ℕ → Type 0 where
     as_form : (scope : Scope) (d e : Datum) (tail : Bool) (k : ℕ) → row scope d ≡ stands_for e → Means shared n scope e tail k → Means shared n scope d tail k
     as_node : (scope : Scope) (d : Datum) (tail : Bool) (k : ℕ) (shape : Shape) (parts : List Part) (c : Core) → row scope d ≡ node shape [] parts
-      → slice_get n.nodes k ≡ Some c → slice_get n.spans k ≡ Some (span_of d) → Fits shared tail shape c → AllMean shared n scope parts (parts_of c tail)
-      → Means shared n scope d tail k
+        → slice_get n.nodes k ≡ Some c → slice_get n.spans k ≡ Some (span_of d) → Fits shared tail shape c → AllMean shared n scope parts (parts_of c tail)
+        → Means shared n scope d tail k
 
   pub data AllMean (shared : Shared) (n : Nodes) : Scope → List Part → List NodePart → Type 0 where
     no_parts : (scope : Scope) → AllMean shared n scope [] []
     one_part : (scope : Scope) (p : Part) (q : NodePart) (ps : List Part) (qs : List NodePart) → length p.binds ≡ length q.binds
-      → Means shared n (within scope p.binds q.binds) p.form q.tail q.at → AllMean shared n scope ps qs → AllMean shared n scope (p ∷ ps) (q ∷ qs)
+        → Means shared n (within scope p.binds q.binds) p.form q.tail q.at → AllMean shared n scope ps qs → AllMean shared n scope (p ∷ ps) (q ∷ qs)
 
 -- ---- forms
 

@@ -1,5 +1,5 @@
 -- What a name means: its lexical binding, else the unit's definition, else the builtin thing.
-use Rattle.std.specs.Prelude.{ℕ, ◌+◌, Bool, true, false, if◌then◌else◌, List, [], ◌∷◌, Option, Some, None, codes}
+use Rattle.std.specs.Prelude.{ℕ, Bool, if◌then◌else◌, List, [], ◌∷◌, Option, Some, None, codes}
 use Rattle.std.specs.Str.{bytes_eq}
 use Rattle.t_base.specs.declared.basics.Var.{Var}
 use Rattle.t_base.specs.declared.builtins.Builtin.{Builtin}
@@ -46,8 +46,8 @@ or_else f (Some x) otherwise = f x
 abbrev pub builtin_meaning : List ℕ → Meaning
 builtin_meaning text =
     or_else the_builtin (builtin_named text)
-      (or_else the_operation (spelled operation_names text)
-        (if bytes_eq text (codes "t") then the_truth else if bytes_eq text (codes "list") then the_listing else none))
+    (or_else the_operation (spelled operation_names text)
+    (if bytes_eq text (codes "t") then the_truth else if bytes_eq text (codes "list") then the_listing else none))
 
 abbrev pub beyond : Name → Meaning
 beyond (written text) = builtin_meaning text

@@ -1,14 +1,13 @@
 -- What is refused in a unit, and the first refusal.
-use Rattle.std.specs.Prelude.{◌≡◌, ◌⊎◌, ℕ, ◌<◌, ◌≤◌, List, [], ◌∷◌, ◌++◌, map, Contains, Option, Some, None, if◌then◌else◌}
+use Rattle.std.specs.Prelude.{◌≡◌, ◌⊎◌, ℕ, ◌<◌, ◌≤◌, List, [], ◌∷◌, ◌++◌, map, Contains, Some, None, if◌then◌else◌}
 use Rattle.std.specs.List.{list_any}
-use Rattle.t_base.specs.declared.basics.Span.{Span}
 use Rattle.t_base.specs.declared.basics.Var.{Var}
 use Rattle.t_reader.specs.Grammar.{Tree}
 use Rattle.t_expand.specs.declared.fault.SyntaxKind.{SyntaxKind}
 use Rattle.t_expand.specs.declared.fault.SyntaxKind.TheVariants.{BadForm, Twice, ParamTwice, NotOperation, NotSettable, NotTopLevel, ConstantSet, FreeName}
 use Rattle.t_expand.specs.Data.{Datum, datum_of, Name, is_same_name, Binder}
-use Rattle.t_expand.specs.Names.{Scope, Bound, within}
-use Rattle.t_expand.specs.Rows.{Row, stands_for, node, Shape, Refusal, refusal, Part, row, twice, Definition, define, lset, operation_form}
+use Rattle.t_expand.specs.Names.{Scope, within}
+use Rattle.t_expand.specs.Rows.{stands_for, node, Shape, Refusal, refusal, Part, row, twice, Definition, define, lset, operation_form}
 use Rattle.t_expand.specs.Units.{Top, defining, broken, expression, tops_of, definitions_of, names_defined, defined_name}
 
 -- What names a part binds is all that counts here; which variables they mean doesn't.
@@ -22,9 +21,9 @@ inner scope p = within scope p.binds (some_variables p.binds)
 pub data Refused : Scope → Datum → Refusal → Type 0 where
   in_form : (scope : Scope) (d e : Datum) (r : Refusal) → row scope d ≡ stands_for e → Refused scope e r → Refused scope d r
   at_form : (scope : Scope) (d : Datum) (r : Refusal) (shape : Shape) (rs : List Refusal) (parts : List Part) → row scope d ≡ node shape rs parts
-    → Contains rs r → Refused scope d r
+      → Contains rs r → Refused scope d r
   in_part : (scope : Scope) (d : Datum) (r : Refusal) (shape : Shape) (rs : List Refusal) (parts : List Part) (p : Part)
-    → row scope d ≡ node shape rs parts → Contains parts p → Refused (inner scope p) p.form r → Refused scope d r
+      → row scope d ≡ node shape rs parts → Contains parts p → Refused (inner scope p) p.form r → Refused scope d r
 
 abbrev pub top_scope : List Top → Scope
 top_scope tops = record { locals = []; defined = definitions_of tops }

@@ -1,19 +1,18 @@
 -- The table of forms: what each form stands for, a row for each.
-use Rattle.std.specs.Prelude.{ℕ, ◌+◌, ◌==◌, Bool, true, false, not, ◌&&◌, ◌||◌, if◌then◌else◌, is_some, is_none, List, [], ◌∷◌, ◌++◌, map, length, nat_lt, Option, Some, None, codes}
+use Rattle.std.specs.Prelude.{ℕ, ◌+◌, ◌==◌, Bool, true, false, not, ◌||◌, if◌then◌else◌, is_some, List, [], ◌∷◌, ◌++◌, map, length, Option, Some, None, codes}
 use Rattle.std.specs.List.{filter_map, flat_map, list_any, list_all}
-use Rattle.std.specs.Option.{option_map, option_map_or, option_and_then}
+use Rattle.std.specs.Option.{option_map, option_and_then}
 use Rattle.t_base.specs.declared.basics.Span.{Span}
 use Rattle.t_base.specs.declared.basics.Var.{Var}
 use Rattle.t_base.specs.declared.builtins.Builtin.{Builtin}
 use Rattle.t_base.specs.declared.builtins.Builtin.TheVariants as Builtins
 use Rattle.t_prim.specs.Table.{arity_of}
-use Rattle.t_reader.specs.Grammar.{Value, fix, char, nil, truth, string, symbol}
+use Rattle.t_reader.specs.Grammar.{string, symbol}
 use Rattle.t_objects.specs.declared.words.Word.{Word}
 use Rattle.t_objects.specs.declared.words.Word.TheVariants as word
-use Rattle.t_objects.specs.Words.{word_named}
 use Rattle.t_expand.specs.declared.fault.SyntaxKind.{SyntaxKind}
-use Rattle.t_expand.specs.declared.fault.SyntaxKind.TheVariants.{BadForm, Twice, ParamTwice, NotOperation, NotSettable, NotTopLevel, ConstantSet, FreeName}
-use Rattle.t_expand.specs.Data.{New, answer, chosen, turn, start, self, content, part, Atom, given, variable, builtin, operation, listing, Datum, atom, cons, span_of, items_of, listed, a_nil, a_true, a_number, a_variable, a_builtin, an_operation, Name, written, made, is_same_name, name_of, word_of, Binder, binder, binder_of, all_of, binders_of, names}
+use Rattle.t_expand.specs.declared.fault.SyntaxKind.TheVariants.{BadForm, ParamTwice, NotOperation, NotSettable, NotTopLevel, ConstantSet, FreeName}
+use Rattle.t_expand.specs.Data.{answer, chosen, turn, start, self, content, part, Atom, given, variable, builtin, operation, listing, Datum, atom, cons, span_of, items_of, listed, a_nil, a_true, a_number, a_variable, a_builtin, an_operation, Name, written, made, is_same_name, name_of, word_of, Binder, binder_of, all_of, binders_of, names}
 use Rattle.t_expand.specs.Names.{Meaning, a_local, a_global, an_op, the_builtin, the_operation, the_truth, the_listing, none, Scope, meaning}
 
 -- ---- what a row gives
@@ -211,8 +210,8 @@ labels_row s _ = no_row s
 abbrev pub iterate_node : Span → List Datum → Binder → List Binding → Row
 iterate_node s bs f xs =
     node labels []
-      (inside (f.name ∷ []) (lambda_form s (listed s (map (λ x. name_datum x.binds) xs)) bs)
-        ∷ inside (made start ∷ []) (listed s (a_variable f.at start ∷ map (λ x. x.value) xs)) ∷ [])
+    (inside (f.name ∷ []) (lambda_form s (listed s (map (λ x. name_datum x.binds) xs)) bs)
+    ∷ inside (made start ∷ []) (listed s (a_variable f.at start ∷ map (λ x. x.value) xs)) ∷ [])
   where
     name_datum : Binder → Datum
     name_datum b = atom b.at (name_atom b.name)
@@ -249,11 +248,11 @@ result_of s rs = listed s (word_ s (codes "block") ∷ rs)
 abbrev pub do_form : Span → List Datum → List Step → Datum → List Datum → Datum
 do_form s bs steps t rs =
     listed s
-      (word_ s (codes "iterate") ∷ a_variable s turn ∷ listed s (map (λ x. listed s (x.name ∷ x.first ∷ [])) steps)
-        ∷ listed s
-            (word_ s (codes "if") ∷ t ∷ result_of s rs
-              ∷ listed s (word_ s (codes "block") ∷ bs ++ listed s (a_variable s turn ∷ map (λ x. x.next) steps) ∷ []) ∷ [])
-        ∷ [])
+    (word_ s (codes "iterate") ∷ a_variable s turn ∷ listed s (map (λ x. listed s (x.name ∷ x.first ∷ [])) steps)
+    ∷ listed s
+    (word_ s (codes "if") ∷ t ∷ result_of s rs
+    ∷ listed s (word_ s (codes "block") ∷ bs ++ listed s (a_variable s turn ∷ map (λ x. x.next) steps) ∷ []) ∷ [])
+    ∷ [])
 
 abbrev pub do_step : Span → List Datum → List Step → List Datum → Row
 do_step s bs steps [] = no_row s
@@ -274,8 +273,8 @@ and_row s (a ∷ others) = stands_for (listed s (word_ s (codes "if") ∷ a ∷ 
 abbrev pub test_answer : Span → Datum → Datum → Datum → Datum
 test_answer s a here there =
     listed s
-      (word_ s (codes "let") ∷ listed s (listed s (a_variable s answer ∷ a ∷ []) ∷ [])
-        ∷ listed s (word_ s (codes "if") ∷ a_variable s answer ∷ here ∷ there ∷ []) ∷ [])
+    (word_ s (codes "let") ∷ listed s (listed s (a_variable s answer ∷ a ∷ []) ∷ [])
+    ∷ listed s (word_ s (codes "if") ∷ a_variable s answer ∷ here ∷ there ∷ []) ∷ [])
 
 -- (or), (or a), (or a b ..)
 abbrev pub or_row : Span → List Datum → Row
@@ -299,8 +298,8 @@ abbrev pub cond_plain : Span → Datum → List Datum → Datum → Row
 cond_plain s a [] rest = stands_for (listed s (word_ s (codes "or") ∷ a ∷ rest ∷ []))
 cond_plain s a (arrow ∷ f ∷ []) rest =
     if is_arrow (word_of arrow)
-      then stands_for (test_answer s a (received s f) rest)
-      else stands_for (listed s (word_ s (codes "if") ∷ a ∷ listed s (word_ s (codes "block") ∷ arrow ∷ f ∷ []) ∷ rest ∷ []))
+    then stands_for (test_answer s a (received s f) rest)
+    else stands_for (listed s (word_ s (codes "if") ∷ a ∷ listed s (word_ s (codes "block") ∷ arrow ∷ f ∷ []) ∷ rest ∷ []))
 cond_plain s a bs rest = stands_for (listed s (word_ s (codes "if") ∷ a ∷ listed s (word_ s (codes "block") ∷ bs) ∷ rest ∷ []))
 
 -- the first clause, behind which stand others: (else B ..) as the last one, (a), (a => f), (a B ..)
@@ -325,15 +324,15 @@ abbrev pub key_test : Span → List Datum → Datum
 key_test s [] = a_nil s
 key_test s (k ∷ keys) =
     listed s
-      (word_ s (codes "if")
-        ∷ listed s (a_builtin s Builtins.Eq ∷ a_variable s chosen ∷ listed s (word_ s (codes "quote") ∷ k ∷ []) ∷ [])
-        ∷ a_true s ∷ key_test s keys ∷ [])
+    (word_ s (codes "if")
+    ∷ listed s (a_builtin s Builtins.Eq ∷ a_variable s chosen ∷ listed s (word_ s (codes "quote") ∷ k ∷ []) ∷ [])
+    ∷ a_true s ∷ key_test s keys ∷ [])
 
 abbrev pub case_chosen : Span → List Datum → Option Datum → List Datum → Option Datum
 case_chosen s bs rest keys =
     if list_all is_key keys
-      then option_map (λ r. listed s (word_ s (codes "if") ∷ key_test s keys ∷ listed s (word_ s (codes "block") ∷ bs) ∷ r ∷ [])) rest
-      else None
+    then option_map (λ r. listed s (word_ s (codes "if") ∷ key_test s keys ∷ listed s (word_ s (codes "block") ∷ bs) ∷ r ∷ [])) rest
+    else None
 
 -- ((k ..) B ..), with what the clauses behind it stand for
 abbrev pub case_keys : Span → List Datum → Option Datum → Option Datum
@@ -356,7 +355,7 @@ abbrev pub case_row : Span → List Datum → Row
 case_row s [] = no_row s
 case_row s (e ∷ cs) =
     if_formed s (λ d. stands_for (listed s (word_ s (codes "let") ∷ listed s (listed s (a_variable s chosen ∷ e ∷ []) ∷ []) ∷ d ∷ [])))
-      (case_clauses s cs)
+    (case_clauses s cs)
 
 -- ---- SET and LOCATIVE
 
@@ -421,12 +420,12 @@ set_row scope s _ = no_row s
 abbrev pub locative_object : Span → Datum → Datum
 locative_object s place =
     listed s
-      (word_ s (codes "object") ∷ a_nil s
-        ∷ listed s (listed s (an_operation s 1 ∷ a_variable s self ∷ []) ∷ place ∷ [])
-        ∷ listed s
-            (listed s (an_operation s 2 ∷ a_variable s self ∷ a_variable s content ∷ [])
-              ∷ listed s (word_ s (codes "set") ∷ place ∷ a_variable s content ∷ []) ∷ [])
-        ∷ [])
+    (word_ s (codes "object") ∷ a_nil s
+    ∷ listed s (listed s (an_operation s 1 ∷ a_variable s self ∷ []) ∷ place ∷ [])
+    ∷ listed s
+    (listed s (an_operation s 2 ∷ a_variable s self ∷ a_variable s content ∷ [])
+    ∷ listed s (word_ s (codes "set") ∷ place ∷ a_variable s content ∷ []) ∷ [])
+    ∷ [])
 
 -- ((u1 e) ..), from the number on
 abbrev pub part_bindings : Span → ℕ → List Datum → List Datum
@@ -441,8 +440,8 @@ part_variables s i (e ∷ es) = a_variable s (part i) ∷ part_variables s (i + 
 abbrev pub locative_call : Span → Datum → List Datum → Row
 locative_call s (atom t a) es =
     if is_symbol a
-      then stands_for (listed s (word_ s (codes "let") ∷ listed s (part_bindings s 1 es) ∷ locative_object s (listed s (atom t a ∷ part_variables s 1 es)) ∷ []))
-      else stands_for (listed s (word_ s (codes "let") ∷ listed s (part_bindings s 0 (atom t a ∷ es)) ∷ locative_object s (listed s (part_variables s 0 (atom t a ∷ es))) ∷ []))
+    then stands_for (listed s (word_ s (codes "let") ∷ listed s (part_bindings s 1 es) ∷ locative_object s (listed s (atom t a ∷ part_variables s 1 es)) ∷ []))
+    else stands_for (listed s (word_ s (codes "let") ∷ listed s (part_bindings s 0 (atom t a ∷ es)) ∷ locative_object s (listed s (part_variables s 0 (atom t a ∷ es))) ∷ []))
   where
     is_symbol : Atom → Bool
     is_symbol (given (symbol text)) = true
@@ -501,7 +500,7 @@ method_refusals scope m =
 abbrev pub object_node : Scope → Datum → List Method → Row
 object_node scope p ms =
     node (object (filter_map (λ m. operation_of scope m.op) ms)) (flat_map (method_refusals scope) ms)
-      (plain p ∷ map (λ m. inside (names m.params) m.form) ms)
+    (plain p ∷ map (λ m. inside (names m.params) m.form) ms)
 
 -- (object p ((op self x ..) B ..) ..)
 abbrev pub object_row : Scope → Span → List Datum → Row

@@ -1,14 +1,13 @@
 -- What a unit defines: its forms at top level, and what each name that they define is kept as.
-use Rattle.std.specs.Prelude.{ℕ, ◌+◌, Bool, true, false, if◌then◌else◌, is_some, List, [], ◌∷◌, ◌++◌, map, Option, Some, None, codes}
+use Rattle.std.specs.Prelude.{ℕ, ◌+◌, Bool, true, false, if◌then◌else◌, List, [], ◌∷◌, ◌++◌, map, Option, Some, None, codes}
 use Rattle.std.specs.List.{list_any, flat_map}
-use Rattle.std.specs.Option.{option_map, option_map_or}
 use Rattle.std.specs.Str.{bytes_eq}
 use Rattle.t_base.specs.declared.basics.Span.{Span}
 use Rattle.t_reader.specs.Grammar.{symbol}
 use Rattle.t_objects.specs.declared.words.Word.{Word}
 use Rattle.t_objects.specs.declared.words.Word.TheVariants as word
 use Rattle.t_expand.specs.Data.{Datum, atom, cons, given, span_of, items_of, word_of, Name, written, made, is_same_name, Binder}
-use Rattle.t_expand.specs.Names.{Bound, bound, Meaning, a_global, an_op}
+use Rattle.t_expand.specs.Names.{Bound, bound, a_global, an_op}
 use Rattle.t_expand.specs.Rows.{Definition, define, lset, operation_form, definition_of_word}
 
 -- a form at top level: one that defines a name, a defining form that is no row, or an expression
@@ -115,8 +114,8 @@ abbrev pub meanings_from : ℕ → ℕ → List Entry → List Bound
 meanings_from g o [] = []
 meanings_from g o (e ∷ others) =
     if is_global e.by
-      then bound e.name (a_global g (is_assigned e.by)) ∷ meanings_from (g + 1) o others
-      else bound e.name (an_op o) ∷ meanings_from g (o + 1) others
+    then bound e.name (a_global g (is_assigned e.by)) ∷ meanings_from (g + 1) o others
+    else bound e.name (an_op o) ∷ meanings_from g (o + 1) others
 
 -- what the names that the unit defines mean, in the whole unit
 abbrev pub definitions_of : List Top → List Bound
