@@ -49,6 +49,7 @@ fn check_damaged(
     line: &'static [u8],
 ) -> Result<(), Fail> {
     let mut bytes = Vec::from_slice(alloc, SEVEN)?;
+    assert!(rt; at < bytes.len());
     bytes[at] = byte;
     check(
         rt,
@@ -129,16 +130,14 @@ static CUT: [&[u8]; 38] = [
 
 #[test]
 fn every_truncation(rt: HostRuntime) -> Result<(), Fail> {
-    let mut length = 0;
-    for line in CUT {
+    for length in 0..38 {
         check(
             &rt,
             rt.alloc(),
             &SEVEN[..length],
             &["run", "m0", "64", "64", "3"],
-            refused(line),
+            refused(CUT[length]),
         )?;
-        length += 1;
     }
     Ok(())
 }
@@ -149,7 +148,7 @@ fn check_stop(rt: &impl Abort, alloc: Global, code: &[u8], err: &'static [u8]) -
         err,
         status: Status::MachineStop,
     };
-    let image = image_of(alloc, code)?;
+    let image = image_of(rt, alloc, code)?;
     check(
         rt,
         alloc,

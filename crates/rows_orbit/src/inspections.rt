@@ -20,7 +20,8 @@ pub static SEVEN: &[u8] =
     b"ORBI\x00\x00\x00\x01\x00\x01\x00\x00\x00\x00\x00\x06\x00\x00\x00\x00\x00\x00\x00\x00\x00\x00\x00\x00\x00\x00\x00\x00\x70\x1C\x4E\x42\x4E\x40";
 
 /// The image of some code, without static words and names.
-pub fn image_of(alloc: Global, code: &[u8]) -> Result<Vec<u8>, Fail> {
+pub fn image_of(rt: &impl Abort, alloc: Global, code: &[u8]) -> Result<Vec<u8>, Fail> {
+    assert!(rt; code.len() < 1000);
     let mut bytes = Vec::from_slice(alloc, &SEVEN[..12])?;
     bytes.extend_from_slice(&(code.len() as u32).to_be_bytes())?;
     bytes.extend_from_slice(&SEVEN[16..32])?;

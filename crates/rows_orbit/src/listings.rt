@@ -236,7 +236,7 @@ fn check_listed(
     code: &[u8],
     text: &'static [u8],
 ) -> Result<(), Fail> {
-    let image = image_of(alloc, code)?;
+    let image = image_of(rt, alloc, code)?;
     check(rt, alloc, &image, &["list", "m0"], done(text))
 }
 

@@ -1,0 +1,141 @@
+-- The core of a unit: what it is for nodes to be what forms stand for.
+use Rattle.std.specs.Prelude.{◌≡◌, ◌≢◌, ℕ, Bool, false, List, [], ◌∷◌, ◌++◌, map, length, slice_get, AllPairs, Option, Some, None}
+use Rattle.std.specs.List.{flat_map}
+use Rattle.t_base.specs.declared.basics.Span.{Span}
+use Rattle.t_base.specs.declared.basics.Name.{Name as NamePlace}
+use Rattle.t_base.specs.declared.shared_parts.Const.{Const}
+use Rattle.t_base.specs.declared.shared_parts.Const.TheVariants as Constant
+use Rattle.t_base.specs.declared.shared_parts.Shared.{Shared}
+use Rattle.t_reader.specs.Grammar.{Tree, fix, char, nil, truth, string, symbol}
+use Rattle.t_core.specs.declared.forms.Core.{Core}
+use Rattle.t_core.specs.declared.forms.Core.TheVariants as Node
+use Rattle.t_core.specs.declared.forms.FormKind.{FormKind}
+use Rattle.t_core.specs.declared.forms.FormKind.TheVariants as kind
+use Rattle.t_core.specs.declared.forms.Form.{Form}
+use Rattle.t_core.specs.declared.forms.UnitCore.{UnitCore}
+use Rattle.t_core.specs.Nodes.{parts_of}
+use Rattle.t_core.specs.Nodes.{Part as NodePart}
+use Rattle.t_core.specs.Whole.{IsWhole}
+use Rattle.t_expand.specs.Data.{Datum, atom, cons, given, span_of, datum_of}
+use Rattle.t_expand.specs.Names.{Scope, Bound, within}
+use Rattle.t_expand.specs.Rows.{Definition, define, lset, operation_form, stands_for, node, Shape, constant, local, global, builtin_value, op_value, lambda, if_, block, let_, labels, set_local, set_global, catch_, object, call, primitive, Part, row}
+use Rattle.t_expand.specs.Units.{Top, defining, broken, expression, tops_of, known_in, definitions_of, Known, a_kept_global, a_kept_op, global_texts, op_texts}
+
+-- ---- constants
+
+-- the constant is the datum
+abbrev pub IsQuoted : Shared → Datum → Const → Type 0
+IsQuoted shared (atom s (given (fix z))) c = c ≡ Constant.Fix z
+IsQuoted shared (atom s (given (char b))) c = c ≡ Constant.Char b
+IsQuoted shared (atom s (given nil)) c = c ≡ Constant.Nil
+IsQuoted shared (atom s (given truth)) c = c ≡ Constant.True
+IsQuoted shared (atom s (given (string bytes))) c =
+    (place : ℕ) × (c ≡ Constant.Str place) × (slice_get shared.strings.items place ≡ Some bytes)
+IsQuoted shared (atom s (given (symbol text))) c =
+    (name : NamePlace) × (c ≡ Constant.Sym name) × (slice_get shared.names name.0 ≡ Some text)
+IsQuoted shared (atom s _) c = ⊥
+IsQuoted shared (cons s head tail) c =
+    (place : ℕ) × (p : Const × Const) × (c ≡ Constant.Pair place) × (slice_get shared.pairs.items place ≡ Some p) × IsQuoted shared head p.0
+    × IsQuoted shared tail p.1
+
+-- ---- nodes
+
+-- the node is of this shape, in a tail place or not
+abbrev pub Fits : Shared → Bool → Shape → Core → Type 0
+Fits shared tail (constant d) (Node.Const c) = IsQuoted shared d c
+Fits shared tail (local v) (Node.Local w) = v ≡ w
+Fits shared tail (global g) (Node.Global h) = g ≡ h
+Fits shared tail (builtin_value p) (Node.Builtin q) = p ≡ q
+Fits shared tail (op_value o) (Node.Op p) = o ≡ p
+Fits shared tail lambda (Node.Lambda params body) = Unit {0}
+Fits shared tail if_ (Node.If test a b) = Unit {0}
+Fits shared tail block (Node.Block items) = Unit {0}
+Fits shared tail let_ (Node.Let vars values body) = Unit {0}
+Fits shared tail labels (Node.Labels vars lambdas body) = Unit {0}
+Fits shared tail (set_local v) (Node.SetLocal w value) = v ≡ w
+Fits shared tail (set_global g) (Node.SetGlobal h value) = g ≡ h
+Fits shared tail catch_ (Node.Catch v body) = Unit {0}
+Fits shared tail (object ops) (Node.Object proc methods) = map (λ m. m.op) methods ≡ ops
+Fits shared tail call (Node.Call operator operands last) = last ≡ tail
+Fits shared tail (primitive p) (Node.Prim q operands) = p ≡ q
+Fits shared tail _ _ = ⊥
+
+-- the nodes of a form, with the spans of the data that they stand for
+pub record Nodes : Type 0 where
+  pub nodes : List Core
+  pub spans : List Span
+
+-- The node at a place is what the form stands for in a scope: what the form of its row stands for, or a node of the row's shape with the
+-- row's span, nothing being refused at the form, whose parts are in order what the row's parts stand for. The names of a part mean the
+-- variables that the node binds around it.
+mutual
+  pub data Means (shared : Shared) (n : Nodes) : Scope → Datum → Bool → ℕ → Type 0 where
+    as_form : (scope : Scope) (d e : Datum) (tail : Bool) (k : ℕ) → row scope d ≡ stands_for e → Means shared n scope e tail k → Means shared n scope d tail k
+    as_node : (scope : Scope) (d : Datum) (tail : Bool) (k : ℕ) (shape : Shape) (parts : List Part) (c : Core) → row scope d ≡ node shape [] parts
+        → slice_get n.nodes k ≡ Some c → slice_get n.spans k ≡ Some (span_of d) → Fits shared tail shape c → AllMean shared n scope parts (parts_of c tail)
+        → Means shared n scope d tail k
+
+  pub data AllMean (shared : Shared) (n : Nodes) : Scope → List Part → List NodePart → Type 0 where
+    no_parts : (scope : Scope) → AllMean shared n scope [] []
+    one_part : (scope : Scope) (p : Part) (q : NodePart) (ps : List Part) (qs : List NodePart) → length p.binds ≡ length q.binds
+        → Means shared n (within scope p.binds q.binds) p.form q.tail q.at → AllMean shared n scope ps qs → AllMean shared n scope (p ∷ ps) (q ∷ qs)
+
+-- ---- forms
+
+-- the scope at top level
+abbrev pub top_scope : List Bound → Scope
+top_scope defined = record { locals = []; defined = defined }
+
+-- what the root stands for, in no tail place
+abbrev pub RootMeans : List Bound → Shared → Nodes → Datum → ℕ → Type 0
+RootMeans defined shared n d root = Means shared n (top_scope defined) d false root
+
+abbrev pub DefaultMeans : List Bound → Shared → Nodes → Option Datum → ℕ → Type 0
+DefaultMeans defined shared n None root = (n.nodes ≡ []) × (root ≡ 0)
+DefaultMeans defined shared n (Some d) root = RootMeans defined shared n d root
+
+-- what a defining form stands for, by what the unit keeps its name as
+abbrev pub DefinitionMeans : List Bound → Shared → Nodes → FormKind → ℕ → Definition → Option Known → Type 0
+DefinitionMeans defined shared n k root (define b d) (Some (a_kept_global g)) = (k ≡ kind.Define g) × RootMeans defined shared n d root
+DefinitionMeans defined shared n k root (lset b d) (Some (a_kept_global g)) = (k ≡ kind.Lset g) × RootMeans defined shared n d root
+DefinitionMeans defined shared n k root (operation_form b ps d) (Some (a_kept_op o)) = (k ≡ kind.Operation o) × DefaultMeans defined shared n d root
+DefinitionMeans defined shared n k root _ _ = ⊥
+
+abbrev pub TopMeans : List Top → Shared → Nodes → FormKind → ℕ → Top → Type 0
+TopMeans unit shared n k root (defining s d) = DefinitionMeans (definitions_of unit) shared n k root d (known_in unit d)
+TopMeans unit shared n k root (broken s) = ⊥
+TopMeans unit shared n k root (expression d) = (k ≡ kind.Plain) × RootMeans (definitions_of unit) shared n d root
+
+abbrev pub FormMeans : List Top → Shared → Form → List Span → Top → Type 0
+FormMeans unit shared form spans top =
+    (length spans ≡ length form.nodes.items)
+    × TopMeans unit shared (record { nodes = form.nodes.items; spans = spans }) form.kind form.root top
+
+abbrev pub FormsMean : List Top → Shared → List Form → List (List Span) → List Top → Type 0
+FormsMean unit shared [] [] [] = Unit {0}
+FormsMean unit shared (form ∷ forms) (spans ∷ others) (top ∷ tops) = FormMeans unit shared form spans top × FormsMean unit shared forms others tops
+FormsMean unit shared _ _ _ = ⊥
+
+-- ---- units
+
+-- the strings that nodes and pairs name
+abbrev pub string_in : Const → List ℕ
+string_in (Constant.Str k) = k ∷ []
+string_in _ = []
+
+abbrev pub string_of : Core → List ℕ
+string_of (Node.Const c) = string_in c
+string_of _ = []
+
+abbrev pub named_strings : UnitCore → List ℕ
+named_strings unit = flat_map (λ p. string_in p.0 ++ string_in p.1) unit.shared.pairs.items ++ flat_map (λ form. flat_map string_of form.nodes.items) unit.forms.items
+
+-- The unit is the core of the data: whole, each form what its datum stands for, each string literal a string of its own, and the names of
+-- globals and operations those that the data define. How the variables are numbered is free, so that cores of the same data differ by a
+-- one-to-one renaming of variables, and by where strings and pairs are kept.
+pub record IsCoreOf (data_ : List Tree) (unit : UnitCore) (spans : List (List Span)) : Type 0 where
+  pub whole : IsWhole unit
+  pub forms : FormsMean (tops_of (map datum_of data_)) unit.shared unit.forms.items spans (tops_of (map datum_of data_))
+  pub globals : map (λ text. Some text) (global_texts (tops_of (map datum_of data_))) ≡ map (λ g. slice_get unit.shared.names g.name.0) unit.shared.globals.items
+  pub ops : map (λ text. Some text) (op_texts (tops_of (map datum_of data_))) ≡ map (λ o. slice_get unit.shared.names o.name.0) unit.shared.ops.items
+  pub strings_once : AllPairs (λ k l. k ≢ l) (named_strings unit)

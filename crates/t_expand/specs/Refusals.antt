@@ -1,0 +1,72 @@
+-- What is refused in a unit, and the first refusal.
+use Rattle.std.specs.Prelude.{◌≡◌, ◌⊎◌, ℕ, ◌<◌, ◌≤◌, List, [], ◌∷◌, ◌++◌, map, Contains, Some, None, if◌then◌else◌}
+use Rattle.std.specs.List.{list_any}
+use Rattle.t_base.specs.declared.basics.Var.{Var}
+use Rattle.t_reader.specs.Grammar.{Tree}
+use Rattle.t_expand.specs.declared.fault.SyntaxKind.{SyntaxKind}
+use Rattle.t_expand.specs.declared.fault.SyntaxKind.TheVariants.{BadForm, Twice, ParamTwice, NotOperation, NotSettable, NotTopLevel, ConstantSet, FreeName}
+use Rattle.t_expand.specs.Data.{Datum, datum_of, Name, is_same_name, Binder}
+use Rattle.t_expand.specs.Names.{Scope, within}
+use Rattle.t_expand.specs.Rows.{stands_for, node, Shape, Refusal, refusal, Part, row, twice, Definition, define, lset, operation_form}
+use Rattle.t_expand.specs.Units.{Top, defining, broken, expression, tops_of, definitions_of, names_defined, defined_name}
+
+-- What names a part binds is all that counts here; which variables they mean doesn't.
+abbrev pub some_variables : List Name → List Var
+some_variables names = map (λ n. record { 0 = 0 }) names
+
+abbrev pub inner : Scope → Part → Scope
+inner scope p = within scope p.binds (some_variables p.binds)
+
+-- this refusal stands at the form or in it: at the form by its row, in the form that it stands for, or in a part of its node
+pub data Refused : Scope → Datum → Refusal → Type 0 where
+  in_form : (scope : Scope) (d e : Datum) (r : Refusal) → row scope d ≡ stands_for e → Refused scope e r → Refused scope d r
+  at_form : (scope : Scope) (d : Datum) (r : Refusal) (shape : Shape) (rs : List Refusal) (parts : List Part) → row scope d ≡ node shape rs parts
+      → Contains rs r → Refused scope d r
+  in_part : (scope : Scope) (d : Datum) (r : Refusal) (shape : Shape) (rs : List Refusal) (parts : List Part) (p : Part)
+      → row scope d ≡ node shape rs parts → Contains parts p → Refused (inner scope p) p.form r → Refused scope d r
+
+abbrev pub top_scope : List Top → Scope
+top_scope tops = record { locals = []; defined = definitions_of tops }
+
+-- in what a definition defines
+abbrev pub RefusedDefinition : List Top → Definition → Refusal → Type 0
+RefusedDefinition tops (define b d) r = Refused (top_scope tops) d r
+RefusedDefinition tops (lset b d) r = Refused (top_scope tops) d r
+RefusedDefinition tops (operation_form b ps (Some d)) r = Refused (top_scope tops) d r
+RefusedDefinition tops (operation_form b ps None) r = Contains (twice ps) r
+
+-- of a name that a form before this one defines
+abbrev pub twice_defined : List Top → Binder → List Refusal
+twice_defined before b = if list_any (is_same_name b.name) (names_defined before) then refusal Twice b.at ∷ [] else []
+
+-- this refusal stands at or in this form, behind those before it
+abbrev pub RefusedTop : List Top → List Top → Top → Refusal → Type 0
+RefusedTop tops before (defining s d) r = Contains (twice_defined before (defined_name d)) r ⊎ RefusedDefinition tops d r
+RefusedTop tops before (broken s) r = r ≡ refusal BadForm s
+RefusedTop tops before (expression d) r = Refused (top_scope tops) d r
+
+pub record RefusedIn (tops : List Top) (r : Refusal) : Type 0 where
+  pub before : List Top
+  pub top : Top
+  pub behind : List Top
+  pub forms : tops ≡ before ++ top ∷ behind
+  pub stands : RefusedTop tops before top r
+
+abbrev pub number : SyntaxKind → ℕ
+number BadForm = 1
+number Twice = 2
+number ParamTwice = 3
+number NotOperation = 4
+number NotSettable = 5
+number NotTopLevel = 6
+number ConstantSet = 7
+number FreeName = 8
+
+-- the first stands at a lower place, or at the same place with a number that is no greater
+abbrev pub Precedes : Refusal → Refusal → Type 0
+Precedes a b = (a.at.start < b.at.start) ⊎ (a.at.start ≡ b.at.start) × (number a.kind ≤ number b.kind)
+
+-- the refusal with the least place, and on a tie the least number, in the whole text
+pub record IsFirstRefusal (data_ : List Tree) (r : Refusal) : Type 0 where
+  pub stands : RefusedIn (tops_of (map datum_of data_)) r
+  pub first : (other : Refusal) → RefusedIn (tops_of (map datum_of data_)) other → Precedes r other
