@@ -249,7 +249,16 @@ fn put_located<S: Sink>(
 {
     put_all(
         sink,
-        &[src.as_bytes(), b":", line.as_bytes(), b":", column.as_bytes(), b": ", refusal, b"\n"],
+        &[
+            src.as_bytes(),
+            b":",
+            line.as_bytes(),
+            b":",
+            column.as_bytes(),
+            b": ",
+            refusal,
+            b"\n",
+        ],
     )
 }
 

@@ -47,7 +47,7 @@ fn four_hundred_open_parentheses(rt: HostRuntime) -> Result<(), Fail> {
     check(&rt, alloc, &most, b"value 401\n", Status::Done)?;
     let mut over = Vec::new(alloc);
     put_sums(&mut over, 401)?;
-    check(&rt, alloc, &over, b"", Status::Unbuilt)
+    check(&rt, alloc, &over, b"", Status::SourceRefused)
 }
 
 /// A form of three rows of sums: two sums more than the rows have.

@@ -36,7 +36,7 @@ fn unbuilt(text: &'static [u8]) -> Row {
     }
 }
 
-static VALUES: [(&[u8], &[u8]); 12] = [
+static VALUES: [(&[u8], &[u8]); 15] = [
     (b"(+ 40 2)", b"value 42\n"),
     (b"7 (+ 1 (+ 2 3))", b"value 6\n"),
     (b"", b"value ()\n"),
@@ -49,6 +49,9 @@ static VALUES: [(&[u8], &[u8]); 12] = [
     (b"(+(+ 1 2)(+ 3 4))", b"value 10\n"),
     (b"1(+ 2 3)4 5", b"value 5\n"),
     (b"536870911 -536870912", b"value -536870912\n"),
+    (b"0000000001", b"value 1\n"),
+    (b"+5", b"value 5\n"),
+    (b"1 ; one", b"value 1\n"),
 ];
 
 #[test]
@@ -74,22 +77,17 @@ fn overflow_is_fault_seven(rt: HostRuntime) -> Result<(), Fail> {
     Ok(())
 }
 
-static UNBUILT: [&[u8]; 15] = [
+static UNBUILT: [&[u8]; 10] = [
     b"(- 1 2)",
-    b"0000000001",
-    b"536870912",
-    b"-536870913",
-    b"+5",
     b"--5",
     b"-",
     b"(+ 1)",
     b"(+ 1 2 3)",
     b"(+1 2)",
-    b"(+ 1 2",
-    b"(+ 1 2))",
-    b"1\x0b2",
     b"()",
-    b"1 ; one",
+    b"(+ 1 . 2)",
+    b"\"a\"",
+    b"'1",
 ];
 
 #[test]
@@ -128,6 +126,34 @@ static LIMITED: [Row; 3] = [
 fn a_run_ends_at_its_limit(rt: HostRuntime) -> Result<(), Fail> {
     for row in LIMITED {
         check(&rt, rt.alloc(), row, true)?;
+    }
+    Ok(())
+}
+
+/// Texts with a fault of the grammar, and the line of each.
+static REFUSED: [(&[u8], &[u8]); 6] = [
+    (b"536870912", b"a.t:1:1: R4 FixnumRange\n"),
+    (b"1\n -536870913", b"a.t:2:2: R4 FixnumRange\n"),
+    (b"(+ 1 2", b"a.t:1:1: R2 Unclosed\n"),
+    (b"(+ 1 2))", b"a.t:1:8: R3 ExtraClose\n"),
+    (b"1\x0b2", b"a.t:1:2: R1 BadByte\n"),
+    (b"#q", b"a.t:1:1: R5 BadHash\n"),
+];
+
+fn refused(text: &'static [u8], err: &'static [u8]) -> Row {
+    Row {
+        text,
+        steps: MOST,
+        out: b"",
+        err,
+        status: Status::SourceRefused,
+    }
+}
+
+#[test]
+fn faults_of_the_grammar_are_refused(rt: HostRuntime) -> Result<(), Fail> {
+    for (text, err) in REFUSED {
+        check(&rt, rt.alloc(), refused(text, err), false)?;
     }
     Ok(())
 }
