@@ -1,14 +1,14 @@
 -- What a name means: its lexical binding, else the unit's definition, else the builtin thing.
-use Rattle.std.specs.Prelude.{ℕ, Bool, if◌then◌else◌, List, [], ◌∷◌, Option, Some, None, codes}
+use Rattle.std.specs.Prelude.{ℕ, ◌+◌, ◌++◌, Bool, if◌then◌else◌, List, [], ◌∷◌, Option, Some, None, codes}
 use Rattle.std.specs.Str.{bytes_eq}
-use Rattle.t_base.specs.declared.basics.Var.{Var}
 use Rattle.t_base.specs.declared.builtins.Builtin.{Builtin}
 use Rattle.t_objects.specs.Words.{spelled}
-use Rattle.t_expand.specs.Builtins.{builtin_named}
-use Rattle.t_expand.specs.Data.{Name, written, made, is_same_name}
+use Rattle.t_forms.specs.Builtins.{builtin_named}
+use Rattle.t_forms.specs.Data.{Name, written, made, is_same_name}
 
 pub data Meaning : Type 0 where
-  a_local : Var → Meaning
+  -- the place of its binding around the form, the innermost one being 0
+  a_local : ℕ → Meaning
   -- a global, by its place, and whether an LSET defines it
   a_global : ℕ → Bool → Meaning
   -- an operation, by its place
@@ -29,11 +29,6 @@ pub record Bound : Type 0 where
 abbrev pub bound : Name → Meaning → Bound
 bound n m = record { name = n; means = m }
 
--- the first of them that binds the name
-abbrev pub found : List Bound → Name → Meaning → Meaning
-found [] n otherwise = otherwise
-found (b ∷ others) n otherwise = if is_same_name b.name n then b.means else found others n otherwise
-
 -- the names of operations that each unit has
 abbrev pub operation_names : List (List ℕ × ℕ)
 operation_names = (codes "setter", 0) ∷ (codes "contents", 1) ∷ (codes "set-contents", 2) ∷ []
@@ -53,18 +48,26 @@ abbrev pub beyond : Name → Meaning
 beyond (written text) = builtin_meaning text
 beyond (made n) = none
 
--- the names around a form: those that are bound lexically, the innermost first, and those that the unit defines
+-- the names around a form: those that are bound lexically, the innermost first, and what the names that the unit defines mean
 pub record Scope : Type 0 where
-  pub locals : List Bound
+  pub locals : List Name
   pub defined : List Bound
 
+-- the first place of the name, counted from a number on
+abbrev pub place_from : ℕ → List Name → Name → Option ℕ
+place_from i [] n = None
+place_from i (m ∷ others) n = if is_same_name m n then Some i else place_from (i + 1) others n
+
+-- the first of them that binds the name
+abbrev pub defined_as : List Bound → Name → Option Meaning
+defined_as [] n = None
+defined_as (b ∷ others) n = if is_same_name b.name n then Some b.means else defined_as others n
+
 abbrev pub meaning : Scope → Name → Meaning
-meaning scope n = found scope.locals n (found scope.defined n (beyond n))
+meaning scope n =
+    or_else a_local (place_from 0 scope.locals n)
+    (or_else (λ m. m) (defined_as scope.defined n) (beyond n))
 
--- the scope with further names, which mean these variables
-abbrev pub bind : List Name → List Var → List Bound → List Bound
-bind (n ∷ names) (v ∷ vars) locals = bound n (a_local v) ∷ bind names vars locals
-bind _ _ locals = locals
-
-abbrev pub within : Scope → List Name → List Var → Scope
-within scope names vars = record { locals = bind names vars scope.locals; defined = scope.defined }
+-- the scope with further names
+abbrev pub within : Scope → List Name → Scope
+within scope names = record { locals = names ++ scope.locals; defined = scope.defined }

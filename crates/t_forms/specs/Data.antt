@@ -1,29 +1,14 @@
 -- Data as the table of forms reads them: those of the text, with what the rows of the table add.
-use Rattle.std.specs.Prelude.{ℕ, Bool, true, false, ◌==◌, if◌then◌else◌, is_none, pos, List, [], ◌∷◌, map, Option, Some, None}
+use Rattle.std.specs.Prelude.{ℕ, ◌+◌, Bool, true, false, ◌==◌, if◌then◌else◌, is_none, pos, List, [], ◌∷◌, map, Option, Some, None}
 use Rattle.std.specs.Option.{option_map}
 use Rattle.std.specs.Str.{bytes_eq}
 use Rattle.t_base.specs.declared.basics.Span.{Span}
 use Rattle.t_base.specs.declared.builtins.Builtin.{Builtin}
 use Rattle.t_reader.specs.Grammar.{Tree, leaf, pair, Value, fix, nil, truth, symbol}
+use Rattle.t_forms.specs.declared.arena.New.{New}
+use Rattle.t_forms.specs.declared.arena.New.TheVariants as new
 use Rattle.t_objects.specs.declared.words.Word.{Word}
 use Rattle.t_objects.specs.Words.{word_named}
-
--- The new variables that rows make. Where a row puts a datum of the text, none of these stands in it, and no row puts the use of one
--- into the scope of another of the same kind: so each use means the variable that its own row made.
-pub data New : Type 0 where
-  -- the value of OR's or COND's first part
-  answer : New
-  -- the datum that CASE compares
-  chosen : New
-  -- the procedure of DO
-  turn : New
-  -- the procedure of ITERATE, at its first call
-  start : New
-  -- the object of LOCATIVE's methods, and the new content
-  self : New
-  content : New
-  -- the parts of the call that a LOCATIVE names: its operator is 0, the operands are 1, 2 ..
-  part : ℕ → New
 
 -- what an atom is: an atom of the text, a new variable, or a thing that a row means whatever its name means in the unit
 pub data Atom : Type 0 where
@@ -53,6 +38,12 @@ abbrev pub items_of : Datum → Option (List Datum)
 items_of (atom s (given nil)) = Some []
 items_of (atom s _) = None
 items_of (cons s head tail) = option_map (λ items. head ∷ items) (items_of tail)
+
+-- how many items it has as a list
+abbrev pub count_of : Datum → Option ℕ
+count_of (atom s (given nil)) = Some 0
+count_of (atom s _) = None
+count_of (cons s head tail) = option_map (λ n. n + 1) (count_of tail)
 
 -- ---- what a row makes
 
@@ -87,13 +78,13 @@ pub data Name : Type 0 where
 
 -- the same new variable
 abbrev pub is_same_new : New → New → Bool
-is_same_new answer answer = true
-is_same_new chosen chosen = true
-is_same_new turn turn = true
-is_same_new start start = true
-is_same_new self self = true
-is_same_new content content = true
-is_same_new (part i) (part j) = i == j
+is_same_new new.Answer new.Answer = true
+is_same_new new.Chosen new.Chosen = true
+is_same_new new.Turn new.Turn = true
+is_same_new new.Start new.Start = true
+is_same_new new.Own new.Own = true
+is_same_new new.Content new.Content = true
+is_same_new (new.Part i) (new.Part j) = i == j
 is_same_new _ _ = false
 
 abbrev pub is_same_name : Name → Name → Bool

@@ -3,24 +3,25 @@ use Rattle.std.specs.Prelude.{ℕ, ◌+◌, ◌==◌, Bool, true, false, not, �
 use Rattle.std.specs.List.{filter_map, flat_map, list_any, list_all}
 use Rattle.std.specs.Option.{option_map, option_and_then}
 use Rattle.t_base.specs.declared.basics.Span.{Span}
-use Rattle.t_base.specs.declared.basics.Var.{Var}
 use Rattle.t_base.specs.declared.builtins.Builtin.{Builtin}
 use Rattle.t_base.specs.declared.builtins.Builtin.TheVariants as Builtins
 use Rattle.t_prim.specs.Table.{arity_of}
 use Rattle.t_reader.specs.Grammar.{string, symbol}
 use Rattle.t_objects.specs.declared.words.Word.{Word}
 use Rattle.t_objects.specs.declared.words.Word.TheVariants as word
-use Rattle.t_expand.specs.declared.fault.SyntaxKind.{SyntaxKind}
-use Rattle.t_expand.specs.declared.fault.SyntaxKind.TheVariants.{BadForm, ParamTwice, NotOperation, NotSettable, NotTopLevel, ConstantSet, FreeName}
-use Rattle.t_expand.specs.Data.{answer, chosen, turn, start, self, content, part, Atom, given, variable, builtin, operation, listing, Datum, atom, cons, span_of, items_of, listed, a_nil, a_true, a_number, a_variable, a_builtin, an_operation, Name, written, made, is_same_name, name_of, word_of, Binder, binder_of, all_of, binders_of, names}
-use Rattle.t_expand.specs.Names.{Meaning, a_local, a_global, an_op, the_builtin, the_operation, the_truth, the_listing, none, Scope, meaning}
+use Rattle.t_forms.specs.declared.arena.New.TheVariants as new
+use Rattle.t_rows.specs.declared.refusal.Refusal.{Refusal}
+use Rattle.t_rows.specs.declared.refusal.SyntaxKind.{SyntaxKind}
+use Rattle.t_rows.specs.declared.refusal.SyntaxKind.TheVariants.{BadForm, ParamTwice, NotOperation, NotSettable, NotTopLevel, ConstantSet, FreeName}
+use Rattle.t_forms.specs.Data.{Atom, given, variable, builtin, operation, listing, Datum, atom, cons, span_of, items_of, listed, a_nil, a_true, a_number, a_variable, a_builtin, an_operation, Name, written, made, is_same_name, name_of, word_of, Binder, binder_of, all_of, binders_of, names}
+use Rattle.t_forms.specs.Names.{Meaning, a_local, a_global, an_op, the_builtin, the_operation, the_truth, the_listing, none, Scope, meaning}
 
 -- ---- what a row gives
 
 -- the node that a form stands for
 pub data Shape : Type 0 where
   constant : Datum → Shape
-  local : Var → Shape
+  local : ℕ → Shape
   global : ℕ → Shape
   builtin_value : Builtin → Shape
   op_value : ℕ → Shape
@@ -29,7 +30,7 @@ pub data Shape : Type 0 where
   block : Shape
   let_ : Shape
   labels : Shape
-  set_local : Var → Shape
+  set_local : ℕ → Shape
   set_global : ℕ → Shape
   catch_ : Shape
   object : List ℕ → Shape
@@ -38,12 +39,8 @@ pub data Shape : Type 0 where
   -- none: the form is refused
   nothing : Shape
 
-pub record Refusal : Type 0 where
-  pub kind : SyntaxKind
-  pub at : Span
-
 abbrev pub refusal : SyntaxKind → Span → Refusal
-refusal k s = record { kind = k; at = s }
+refusal k s = record { kind = k; span = s }
 
 -- a part of a node: a form, and the names that the node binds around it
 pub record Part : Type 0 where
@@ -211,7 +208,7 @@ abbrev pub iterate_node : Span → List Datum → Binder → List Binding → Ro
 iterate_node s bs f xs =
     node labels []
     (inside (f.name ∷ []) (lambda_form s (listed s (map (λ x. name_datum x.binds) xs)) bs)
-    ∷ inside (made start ∷ []) (listed s (a_variable f.at start ∷ map (λ x. x.value) xs)) ∷ [])
+    ∷ inside (made new.Start ∷ []) (listed s (a_variable f.at new.Start ∷ map (λ x. x.value) xs)) ∷ [])
   where
     name_datum : Binder → Datum
     name_datum b = atom b.at (name_atom b.name)
@@ -248,10 +245,10 @@ result_of s rs = listed s (word_ s (codes "block") ∷ rs)
 abbrev pub do_form : Span → List Datum → List Step → Datum → List Datum → Datum
 do_form s bs steps t rs =
     listed s
-    (word_ s (codes "iterate") ∷ a_variable s turn ∷ listed s (map (λ x. listed s (x.name ∷ x.first ∷ [])) steps)
+    (word_ s (codes "iterate") ∷ a_variable s new.Turn ∷ listed s (map (λ x. listed s (x.name ∷ x.first ∷ [])) steps)
     ∷ listed s
     (word_ s (codes "if") ∷ t ∷ result_of s rs
-    ∷ listed s (word_ s (codes "block") ∷ bs ++ listed s (a_variable s turn ∷ map (λ x. x.next) steps) ∷ []) ∷ [])
+    ∷ listed s (word_ s (codes "block") ∷ bs ++ listed s (a_variable s new.Turn ∷ map (λ x. x.next) steps) ∷ []) ∷ [])
     ∷ [])
 
 abbrev pub do_step : Span → List Datum → List Step → List Datum → Row
@@ -273,14 +270,14 @@ and_row s (a ∷ others) = stands_for (listed s (word_ s (codes "if") ∷ a ∷ 
 abbrev pub test_answer : Span → Datum → Datum → Datum → Datum
 test_answer s a here there =
     listed s
-    (word_ s (codes "let") ∷ listed s (listed s (a_variable s answer ∷ a ∷ []) ∷ [])
-    ∷ listed s (word_ s (codes "if") ∷ a_variable s answer ∷ here ∷ there ∷ []) ∷ [])
+    (word_ s (codes "let") ∷ listed s (listed s (a_variable s new.Answer ∷ a ∷ []) ∷ [])
+    ∷ listed s (word_ s (codes "if") ∷ a_variable s new.Answer ∷ here ∷ there ∷ []) ∷ [])
 
 -- (or), (or a), (or a b ..)
 abbrev pub or_row : Span → List Datum → Row
 or_row s [] = stands_for (a_nil s)
 or_row s (a ∷ []) = stands_for a
-or_row s (a ∷ others) = stands_for (test_answer s a (a_variable s answer) (listed s (word_ s (codes "or") ∷ others)))
+or_row s (a ∷ others) = stands_for (test_answer s a (a_variable s new.Answer) (listed s (word_ s (codes "or") ∷ others)))
 
 abbrev pub is_else : Option Word → Bool
 is_else (Some word.Else) = true
@@ -292,7 +289,7 @@ is_arrow _ = false
 
 -- (f u), read by the table again; ELSE and => are reserved words as expressions here
 abbrev pub received : Span → Datum → Datum
-received s f = if is_else (word_of f) || is_arrow (word_of f) then f else listed s (f ∷ a_variable s answer ∷ [])
+received s f = if is_else (word_of f) || is_arrow (word_of f) then f else listed s (f ∷ a_variable s new.Answer ∷ [])
 
 abbrev pub cond_plain : Span → Datum → List Datum → Datum → Row
 cond_plain s a [] rest = stands_for (listed s (word_ s (codes "or") ∷ a ∷ rest ∷ []))
@@ -325,7 +322,7 @@ key_test s [] = a_nil s
 key_test s (k ∷ keys) =
     listed s
     (word_ s (codes "if")
-    ∷ listed s (a_builtin s Builtins.Eq ∷ a_variable s chosen ∷ listed s (word_ s (codes "quote") ∷ k ∷ []) ∷ [])
+    ∷ listed s (a_builtin s Builtins.Eq ∷ a_variable s new.Chosen ∷ listed s (word_ s (codes "quote") ∷ k ∷ []) ∷ [])
     ∷ a_true s ∷ key_test s keys ∷ [])
 
 abbrev pub case_chosen : Span → List Datum → Option Datum → List Datum → Option Datum
@@ -354,7 +351,7 @@ case_clauses s (c ∷ others) = option_and_then (λ items. case_keys s items (ca
 abbrev pub case_row : Span → List Datum → Row
 case_row s [] = no_row s
 case_row s (e ∷ cs) =
-    if_formed s (λ d. stands_for (listed s (word_ s (codes "let") ∷ listed s (listed s (a_variable s chosen ∷ e ∷ []) ∷ []) ∷ d ∷ [])))
+    if_formed s (λ d. stands_for (listed s (word_ s (codes "let") ∷ listed s (listed s (a_variable s new.Chosen ∷ e ∷ []) ∷ []) ∷ d ∷ [])))
     (case_clauses s cs)
 
 -- ---- SET and LOCATIVE
@@ -421,20 +418,20 @@ abbrev pub locative_object : Span → Datum → Datum
 locative_object s place =
     listed s
     (word_ s (codes "object") ∷ a_nil s
-    ∷ listed s (listed s (an_operation s 1 ∷ a_variable s self ∷ []) ∷ place ∷ [])
+    ∷ listed s (listed s (an_operation s 1 ∷ a_variable s new.Own ∷ []) ∷ place ∷ [])
     ∷ listed s
-    (listed s (an_operation s 2 ∷ a_variable s self ∷ a_variable s content ∷ [])
-    ∷ listed s (word_ s (codes "set") ∷ place ∷ a_variable s content ∷ []) ∷ [])
+    (listed s (an_operation s 2 ∷ a_variable s new.Own ∷ a_variable s new.Content ∷ [])
+    ∷ listed s (word_ s (codes "set") ∷ place ∷ a_variable s new.Content ∷ []) ∷ [])
     ∷ [])
 
 -- ((u1 e) ..), from the number on
 abbrev pub part_bindings : Span → ℕ → List Datum → List Datum
 part_bindings s i [] = []
-part_bindings s i (e ∷ es) = listed s (a_variable s (part i) ∷ e ∷ []) ∷ part_bindings s (i + 1) es
+part_bindings s i (e ∷ es) = listed s (a_variable s (new.Part i) ∷ e ∷ []) ∷ part_bindings s (i + 1) es
 
 abbrev pub part_variables : Span → ℕ → List Datum → List Datum
 part_variables s i [] = []
-part_variables s i (e ∷ es) = a_variable s (part i) ∷ part_variables s (i + 1) es
+part_variables s i (e ∷ es) = a_variable s (new.Part i) ∷ part_variables s (i + 1) es
 
 -- LET of new names to the e around the object; an operator that isn't a symbol has a new name too
 abbrev pub locative_call : Span → Datum → List Datum → Row

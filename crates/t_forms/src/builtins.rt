@@ -2,7 +2,7 @@
 ghost use Rattle.std.specs.Prelude.{◌≡◌};
 ghost use Rattle.std.specs.Str.{bytes_eq};
 ghost use Rattle.t_objects.specs.Words.{spelled};
-ghost use Rattle.t_expand.specs.Builtins.{number_names, test_names, data_names, output_names, builtin_named};
+ghost use Rattle.t_forms.specs.Builtins.{number_names, test_names, data_names, output_names, builtin_named};
 
 use t_base::Prim;
 

@@ -1,0 +1,4 @@
+pub mod Builtins
+pub mod Data
+pub mod Held
+pub mod Names

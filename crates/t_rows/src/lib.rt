@@ -1,0 +1,11 @@
+//! The table of forms: what each form of a text stands for (`specs/Rows.antt`, a row for each), and the call that gives the row of a
+//! form (`specs/Given.antt`).
+#![tactic(auto)]
+
+mod refusal;
+mod row;
+mod table;
+
+pub use crate::refusal::{Refusal, SyntaxKind};
+pub use crate::row::{Part, Row, Shape};
+pub use crate::table::row;
