@@ -1,5 +1,5 @@
 -- What cells stand for: data, names and the names around a form.
-use Rattle.std.specs.Prelude.{◌≡◌, ℕ, ◌<◌, List, [], ◌∷◌, length, map, slice_get, Option, Some, None}
+use Rattle.std.specs.Prelude.{◌≡◌, ℕ, ◌<◌, List, [], ◌∷◌, ◌++◌, map, reverse, slice_get, Option, Some, None}
 use Rattle.t_base.specs.declared.basics.Name.{Name as NamePlace}
 use Rattle.t_base.specs.declared.basics.Span.{Span}
 use Rattle.t_base.specs.declared.basics.Var.{Var}
@@ -95,6 +95,17 @@ pub record Around : Type 0 where
 
 abbrev pub vars_of : Around → List Var
 vars_of a = map (λ l. l.var) a.locals
+
+abbrev pub local : LocalName → Var → Local
+local name var = record { name = name; var = var }
+
+-- of bindings in the order in which they are made
+abbrev pub innermost_first : List Local → List Local
+innermost_first locals = reverse locals
+
+abbrev pub without_first : List Local → List Local
+without_first [] = []
+without_first (l ∷ others) = others
 
 pub record IsScope (names : List (List ℕ)) (a : Around) (scope : Scope) : Type 0 where
   pub locals : AreNames names (map (λ l. l.name) a.locals) scope.locals

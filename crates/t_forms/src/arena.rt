@@ -1,5 +1,5 @@
 // Forms as cells: the data of a text, and what the rows of the table of forms make of them.
-ghost use Rattle.std.specs.Prelude.{◌≡◌, ◌++◌, ◌∷◌, [], ◌<◌, length, slice_get, Some, OnOk, IfOk};
+ghost use Rattle.std.specs.Prelude.{◌≡◌, ◌++◌, ◌∷◌, [], length, slice_get, option_map, OnOk, IfOk};
 ghost use Rattle.t_forms.specs.Held.{cell};
 
 use std::alloc::Global;

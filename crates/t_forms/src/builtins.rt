@@ -6,7 +6,7 @@ ghost use Rattle.t_forms.specs.Builtins.{number_names, test_names, data_names, o
 
 use t_base::Prim;
 
-fn is_spelled(text: &[u8], spelling: &[u8]) -> bool
+pub fn is_spelled(text: &[u8], spelling: &[u8]) -> bool
     ensures { result ≡ bytes_eq text.now spelling.now }
 {
     text == spelling

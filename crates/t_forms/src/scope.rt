@@ -1,11 +1,12 @@
 // The names around a form.
-ghost use Rattle.std.specs.Prelude.{◌≡◌, ◌≢◌, ◌∷◌, [], List, ℕ, AllPairs, OnOk, tail};
-ghost use Rattle.t_forms.specs.Held.{Around, IsName, IsScope, IsMeaning, vars_of};
-ghost use Rattle.t_forms.specs.Data.{Name};
-ghost use Rattle.t_forms.specs.Names.{Scope as Around_, meaning};
+ghost use Rattle.std.specs.Prelude.{◌≡◌, ◌≢◌, ◌∷◌, [], List, ℕ, AllPairs, Option, Some, OnOk, option_map, slice_get};
+ghost use Rattle.t_forms.specs.Data.{Name as SpecName, written, is_same_new};
+ghost use Rattle.t_forms.specs.Held.{Around, IsName, IsTable, IsScope, IsMeaning, vars_of, local, innermost_first, without_first};
+ghost use Rattle.t_forms.specs.Names.{Scope as SpecScope, Bound, meaning, builtin_meaning, defined_as, or_else};
+ghost use Rattle.t_forms.specs.Lookup.{is_same_key, var_bound};
 
 use crate::arena::New;
-use crate::builtins::builtin_of;
+use crate::builtins::{builtin_of, is_spelled};
 use std::alloc::Global;
 use std::marker::Model;
 use t_base::{Memory, Name, Names, Prim, Var};
@@ -61,31 +62,137 @@ pub struct Scope {
 }
 
 impl Model for Scope {
-    ghost use Rattle.t_forms.specs.Held.{Around};
+    ghost use Rattle.t_forms.specs.Held.{Around, innermost_first};
 
     ghost Value = { Around };
 
     ghost view = { λ s. record { locals = innermost_first s.locals.items; table = s.table.items } };
 }
 
+fn is_same_new(a: New, b: New) -> bool
+    ensures { result ≡ is_same_new a b }
+{
+    match (a, b) {
+        (New::Answer, New::Answer) => true,
+        (New::Chosen, New::Chosen) => true,
+        (New::Turn, New::Turn) => true,
+        (New::Start, New::Start) => true,
+        (New::Own, New::Own) => true,
+        (New::Content, New::Content) => true,
+        (New::Part(i), New::Part(j)) => i == j,
+        _ => false,
+    }
+}
+
+fn is_same(a: LocalName, b: LocalName) -> bool
+    ensures { result ≡ is_same_key a b }
+{
+    match (a, b) {
+        (LocalName::Written(a), LocalName::Written(b)) => a.0 == b.0,
+        (LocalName::Made(a), LocalName::Made(b)) => is_same_new(a, b),
+        _ => false,
+    }
+}
+
+/// The variable of the innermost binding of a name, of bindings with the innermost last.
+fn var_bound(locals: &[Local], name: LocalName) -> Option<Var>
+    ensures { result ≡ var_bound (innermost_first locals.now) name }
+{
+    let mut found = None;
+    'locals: for local in locals {
+        if is_same(local.name, name) {
+            found = Some(local.var);
+        }
+    }
+    found
+}
+
+/// What a name means where the unit doesn't define it.
+fn builtin_meaning(text: &[u8]) -> Meant
+    ensures { (vars : List Var) → IsMeaning vars result (builtin_meaning text.now) }
+{
+    match builtin_of(text) {
+        Some(p) => Meant::Builtin(p),
+        None => {
+            if is_spelled(text, b"setter") {
+                Meant::BuiltinOperation(0)
+            } else if is_spelled(text, b"contents") {
+                Meant::BuiltinOperation(1)
+            } else if is_spelled(text, b"set-contents") {
+                Meant::BuiltinOperation(2)
+            } else if is_spelled(text, b"t") {
+                Meant::Truth
+            } else if is_spelled(text, b"list") {
+                Meant::Listing
+            } else {
+                Meant::Nothing
+            }
+        }
+    }
+}
+
+fn defined_at(table: &[Option<Defined>], name: Name) -> Option<Defined>
+    ensures { (d : Option Defined) → slice_get table.now name.0 ≡ Some d → result ≡ d }
+{
+    match table.get(name.0 as usize) {
+        Some(d) => *d,
+        None => None,
+    }
+}
+
+/// What a name means that isn't bound lexically.
+fn written_meaning(table: &[Option<Defined>], names: &Names, name: Name) -> Meant
+    ensures { (text : List ℕ) (bounds : List Bound) (vars : List Var) → slice_get names.now name.0 ≡ Some text → IsTable names.now table.now bounds → IsMeaning vars result (or_else (λ m. m) (defined_as bounds (written text)) (builtin_meaning text)) }
+{
+    match defined_at(table, name) {
+        Some(Defined::Global { place, assigned }) => Meant::Global { place, assigned },
+        Some(Defined::Operation(place)) => Meant::Operation(place),
+        None => {
+            if name.0 < names.count() {
+                builtin_meaning(names.text(name))
+            } else {
+                Meant::Nothing
+            }
+        }
+    }
+}
+
 impl Scope {
     /// No local names, and this table. It takes no memory.
     pub fn new(alloc: Global, table: Vec<Option<Defined>>) -> Scope
         ensures { result ≡ record { locals = []; table = table.items } }
-    { TODO }
+    {
+        Scope {
+            locals: Vec::new(alloc),
+            table,
+        }
+    }
 
     /// Binds a name around what follows. The only error is the want of memory.
     pub fn bind(&mut self, name: LocalName, var: Var) -> Result<(), Memory>
         ensures { OnOk result (self.new ≡ record { locals = local name var ∷ self.old.locals; table = self.old.table }) }
-    { TODO }
+    {
+        self.locals.push(Local { name, var })?;
+        Ok(())
+    }
 
     /// Ends the innermost binding, where there is one. It takes no memory.
     pub fn unbind(&mut self)
-        ensures { self.new ≡ record { locals = behind self.old.locals; table = self.old.table } }
-    { TODO }
+        ensures { self.new ≡ record { locals = without_first self.old.locals; table = self.old.table } }
+    {
+        let _last = self.locals.pop();
+    }
 
     /// What a name means. It takes no memory.
     pub fn meaning(&self, names: &Names, name: LocalName) -> Meant
         ensures { (n : SpecName) (scope : SpecScope) → AllPairs (λ a b. a ≢ b) names.now → IsName names.now name n → IsScope names.now self.now scope → IsMeaning (vars_of self.now) result (meaning scope n) }
-    { TODO }
+    {
+        match var_bound(self.locals.as_slice(), name) {
+            Some(var) => Meant::Local(var),
+            None => match name {
+                LocalName::Made(_) => Meant::Nothing,
+                LocalName::Written(place) => written_meaning(self.table.as_slice(), names, place),
+            },
+        }
+    }
 }

@@ -1,8 +1,10 @@
 -- What the code's row is to the table's.
 use Rattle.std.specs.Prelude.{◌≡◌, ℕ, List, [], ◌∷◌, slice_get, Some}
+use Rattle.std.specs.Global.{Vec}
 use Rattle.t_base.specs.declared.basics.Var.{Var}
 use Rattle.t_forms.specs.declared.arena.Cell.{Cell}
 use Rattle.t_forms.specs.Held.{Held, AreNames}
+use Rattle.t_rows.specs.declared.refusal.Refusal.{Refusal}
 use Rattle.t_rows.specs.declared.row.Shape.{Shape as CodeShape}
 use Rattle.t_rows.specs.declared.row.Shape.TheVariants as code
 use Rattle.t_rows.specs.declared.row.Part.{Part as CodePart}
@@ -40,4 +42,5 @@ AreParts names cells cs (p ∷ ps) = (c : CodePart) × (others : List CodePart) 
 abbrev pub IsRow : List (List ℕ) → List Cell → List Var → CodeRow → Row → Type 0
 IsRow names cells vars c (stands_for d) = (k : ℕ) × (c ≡ coded.StandsFor k) × Held names cells k d
 IsRow names cells vars c (node shape refusals parts) =
-    (s : CodeShape) × (rs : _) × (ps : _) × (c ≡ coded.Node s rs ps) × IsShape names cells vars s shape × (rs.items ≡ refusals) × AreParts names cells ps.items parts
+    (s : CodeShape) × (rs : Vec Refusal) × (ps : Vec CodePart) × (c ≡ coded.Node s rs ps) × IsShape names cells vars s shape × (rs.items ≡ refusals)
+    × AreParts names cells ps.items parts
