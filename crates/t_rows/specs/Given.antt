@@ -5,11 +5,11 @@ use Rattle.t_base.specs.declared.basics.Var.{Var}
 use Rattle.t_forms.specs.declared.arena.Cell.{Cell}
 use Rattle.t_forms.specs.Held.{Held, AreNames}
 use Rattle.t_rows.specs.declared.refusal.Refusal.{Refusal}
-use Rattle.t_rows.specs.declared.row.Shape.{Shape as CodeShape}
-use Rattle.t_rows.specs.declared.row.Shape.TheVariants as code
-use Rattle.t_rows.specs.declared.row.Part.{Part as CodePart}
-use Rattle.t_rows.specs.declared.row.Row.{Row as CodeRow}
-use Rattle.t_rows.specs.declared.row.Row.TheVariants as coded
+use Rattle.t_rows.specs.declared.rows.Shape.{Shape as CodeShape}
+use Rattle.t_rows.specs.declared.rows.Shape.TheVariants as code
+use Rattle.t_rows.specs.declared.rows.Part.{Part as CodePart}
+use Rattle.t_rows.specs.declared.rows.Row.{Row as CodeRow}
+use Rattle.t_rows.specs.declared.rows.Row.TheVariants as coded
 use Rattle.t_rows.specs.Rows.{Shape, constant, local, global, builtin_value, op_value, lambda, if_, block, let_, labels, set_local, set_global, catch_, object, call, primitive, nothing, Part, Row, stands_for, node}
 
 abbrev pub IsShape : List (List ℕ) → List Cell → List Var → CodeShape → Shape → Type 0

@@ -3,9 +3,9 @@
 #![tactic(auto)]
 
 mod refusal;
-mod row;
+mod rows;
 mod table;
 
 pub use crate::refusal::{Refusal, SyntaxKind};
-pub use crate::row::{Part, Row, Shape};
+pub use crate::rows::{Part, Row, Shape};
 pub use crate::table::row;

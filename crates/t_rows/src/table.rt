@@ -6,7 +6,7 @@ ghost use Rattle.t_forms.specs.Held.{Held, IsScope, Extends, vars_of};
 ghost use Rattle.t_rows.specs.Rows.{row};
 ghost use Rattle.t_rows.specs.Given.{IsRow};
 
-use crate::row::Row;
+use crate::rows::Row;
 use t_base::{Memory, Names};
 use t_forms::{Forms, Scope};
 

@@ -1,8 +1,8 @@
 // What a row of the table of forms gives.
 
+use crate::refusal::Refusal;
 use t_base::{Keys, Prim, Var};
 use t_forms::LocalName;
-use crate::refusal::Refusal;
 
 /// The node that a form stands for. A place of a form is among the cells.
 #[derive(Drop)]
