@@ -81,7 +81,7 @@ body s bs = listed s (atom s (given (symbol (codes "block"))) ∷ bs)
 abbrev pub word_ : Span → List ℕ → Datum
 word_ s text = atom s (given (symbol text))
 
--- the second one of each name that stands twice in a list
+-- each one of a name that stands in the list before it
 abbrev pub twice_after : List Name → List Binder → List Refusal
 twice_after before [] = []
 twice_after before (b ∷ others) =
@@ -168,8 +168,9 @@ binding e b = record { binds = b; value = e }
 
 -- ((f x ..) B ..)
 abbrev pub procedure_item : Span → List Datum → List Datum → Option Binding
-procedure_item s bs [] = None
-procedure_item s bs (f ∷ xs) = option_map (binding (lambda_form s (listed s xs) bs)) (binder_of f)
+procedure_item s (b ∷ bs) (f ∷ xs) =
+    option_and_then (λ ps. option_map (binding (lambda_form s (listed s xs) (b ∷ bs))) (binder_of f)) (binders_of xs)
+procedure_item s _ _ = None
 
 abbrev pub is_lambda_word : Datum → Bool
 is_lambda_word d = is_lambda (word_of d)
