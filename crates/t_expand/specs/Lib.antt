@@ -1,3 +1,4 @@
+pub mod Growth
 pub mod Meaning
 pub mod Refusals
 pub mod Units

@@ -1,5 +1,5 @@
 -- The core of a unit: what it is for nodes to be what forms stand for.
-use Rattle.std.specs.Prelude.{◌≡◌, ◌≢◌, ℕ, Bool, false, List, [], ◌∷◌, ◌++◌, map, length, slice_get, AllPairs, Option, Some, None}
+use Rattle.std.specs.Prelude.{◌≡◌, ◌≢◌, ℕ, Bool, true, false, List, [], ◌∷◌, ◌++◌, map, length, slice_get, AllPairs, Option, Some, None}
 use Rattle.std.specs.List.{flat_map}
 use Rattle.t_base.specs.declared.basics.Span.{Span}
 use Rattle.t_base.specs.declared.basics.Name.{Name as NamePlace}
@@ -17,10 +17,10 @@ use Rattle.t_core.specs.declared.forms.UnitCore.{UnitCore}
 use Rattle.t_core.specs.Nodes.{parts_of}
 use Rattle.t_core.specs.Nodes.{Part as NodePart}
 use Rattle.t_core.specs.Whole.{IsWhole}
-use Rattle.t_forms.specs.Data.{Datum, atom, cons, given, span_of, datum_of}
-use Rattle.t_forms.specs.Names.{Scope, Bound, within}
-use Rattle.t_rows.specs.Rows.{Definition, define, lset, operation_form, stands_for, node, Shape, constant, local, global, builtin_value, op_value, lambda, if_, block, let_, labels, set_local, set_global, catch_, object, call, primitive, Part, row}
-use Rattle.t_expand.specs.Units.{Top, defining, broken, expression, tops_of, known_in, definitions_of, Known, a_kept_global, a_kept_op, global_texts, op_texts}
+use Rattle.t_forms.specs.Data.{Datum, atom, cons, given, span_of, datum_of, Binder}
+use Rattle.t_forms.specs.Names.{Scope, Bound, within, Meaning, a_global, an_op}
+use Rattle.t_rows.specs.Rows.{Definition, define, lset, operation_form, stands_for, node, Shape, constant, local, global, builtin_value, op_value, lambda, if_, block, let_, labels, set_local, set_global, catch_, object, call, primitive, Part, row, twice}
+use Rattle.t_expand.specs.Units.{Top, defining, broken, expression, tops_of, definitions_of, meaning_of, global_texts, op_texts}
 
 -- ---- constants
 
@@ -93,31 +93,32 @@ top_scope defined = record { locals = []; defined = defined }
 abbrev pub RootMeans : List Bound → Shared → Nodes → Datum → ℕ → Type 0
 RootMeans defined shared n d root = Means shared n [] (top_scope defined) d false root
 
-abbrev pub DefaultMeans : List Bound → Shared → Nodes → Option Datum → ℕ → Type 0
-DefaultMeans defined shared n None root = (n.nodes ≡ []) × (root ≡ 0)
-DefaultMeans defined shared n (Some d) root = RootMeans defined shared n d root
+-- an operation without a default has no body, in which a name twice among its parameters would be refused
+abbrev pub DefaultMeans : List Bound → Shared → Nodes → List Binder → Option Datum → ℕ → Type 0
+DefaultMeans defined shared n ps None root = (twice ps ≡ []) × (n.nodes ≡ []) × (root ≡ 0)
+DefaultMeans defined shared n ps (Some d) root = RootMeans defined shared n d root
 
--- what a defining form stands for, by what the unit keeps its name as
-abbrev pub DefinitionMeans : List Bound → Shared → Nodes → FormKind → ℕ → Definition → Option Known → Type 0
-DefinitionMeans defined shared n k root (define b d) (Some (a_kept_global g)) = (k ≡ kind.Define g) × RootMeans defined shared n d root
-DefinitionMeans defined shared n k root (lset b d) (Some (a_kept_global g)) = (k ≡ kind.Lset g) × RootMeans defined shared n d root
-DefinitionMeans defined shared n k root (operation_form b ps d) (Some (a_kept_op o)) = (k ≡ kind.Operation o) × DefaultMeans defined shared n d root
+-- what a defining form stands for, by what its name means
+abbrev pub DefinitionMeans : List Bound → Shared → Nodes → FormKind → ℕ → Definition → Option Meaning → Type 0
+DefinitionMeans defined shared n k root (define b d) (Some (a_global g false)) = (k ≡ kind.Define g) × RootMeans defined shared n d root
+DefinitionMeans defined shared n k root (lset b d) (Some (a_global g true)) = (k ≡ kind.Lset g) × RootMeans defined shared n d root
+DefinitionMeans defined shared n k root (operation_form b ps d) (Some (an_op o)) = (k ≡ kind.Operation o) × DefaultMeans defined shared n ps d root
 DefinitionMeans defined shared n k root _ _ = ⊥
 
-abbrev pub TopMeans : List Top → Shared → Nodes → FormKind → ℕ → Top → Type 0
-TopMeans unit shared n k root (defining s d) = DefinitionMeans (definitions_of unit) shared n k root d (known_in unit d)
-TopMeans unit shared n k root (broken s) = ⊥
-TopMeans unit shared n k root (expression d) = (k ≡ kind.Plain) × RootMeans (definitions_of unit) shared n d root
+abbrev pub TopMeans : List Bound → Shared → Nodes → FormKind → ℕ → Top → Type 0
+TopMeans defined shared n k root (defining d) = DefinitionMeans defined shared n k root d (meaning_of defined d)
+TopMeans defined shared n k root (broken s) = ⊥
+TopMeans defined shared n k root (expression d) = (k ≡ kind.Plain) × RootMeans defined shared n d root
 
-abbrev pub FormMeans : List Top → Shared → Form → List Span → Top → Type 0
-FormMeans unit shared form spans top =
+abbrev pub FormMeans : List Bound → Shared → Form → List Span → Top → Type 0
+FormMeans defined shared form spans top =
     (length spans ≡ length form.nodes.items)
-    × TopMeans unit shared (record { nodes = form.nodes.items; spans = spans }) form.kind form.root top
+    × TopMeans defined shared (record { nodes = form.nodes.items; spans = spans }) form.kind form.root top
 
-abbrev pub FormsMean : List Top → Shared → List Form → List (List Span) → List Top → Type 0
-FormsMean unit shared [] [] [] = Unit {0}
-FormsMean unit shared (form ∷ forms) (spans ∷ others) (top ∷ tops) = FormMeans unit shared form spans top × FormsMean unit shared forms others tops
-FormsMean unit shared _ _ _ = ⊥
+abbrev pub FormsMean : List Bound → Shared → List Form → List (List Span) → List Top → Type 0
+FormsMean defined shared [] [] [] = Unit {0}
+FormsMean defined shared (form ∷ forms) (spans ∷ others) (top ∷ tops) = FormMeans defined shared form spans top × FormsMean defined shared forms others tops
+FormsMean defined shared _ _ _ = ⊥
 
 -- ---- units
 
@@ -133,12 +134,12 @@ string_of _ = []
 abbrev pub named_strings : UnitCore → List ℕ
 named_strings unit = flat_map (λ p. string_in p.0 ++ string_in p.1) unit.shared.pairs.items ++ flat_map (λ form. flat_map string_of form.nodes.items) unit.forms.items
 
--- The unit is the core of the data: whole, each form what its datum stands for, each string literal a string of its own, and the names of
--- globals and operations those that the data define. How the variables are numbered is free, so that cores of the same data differ by a
--- one-to-one renaming of variables, and by where strings and pairs are kept.
+-- The unit is the core of the data: whole, which it isn't where a name is defined twice, each form what its datum stands for, each string
+-- literal a string of its own, and the names of globals and operations those that the data define. This much is free: the numbers of the
+-- variables, the order of a form's nodes, the places of names, strings and pairs, and such of them as nothing names.
 pub record IsCoreOf (data_ : List Tree) (unit : UnitCore) (spans : List (List Span)) : Type 0 where
   pub whole : IsWhole unit
-  pub forms : FormsMean (tops_of (map datum_of data_)) unit.shared unit.forms.items spans (tops_of (map datum_of data_))
+  pub forms : FormsMean (definitions_of (tops_of (map datum_of data_))) unit.shared unit.forms.items spans (tops_of (map datum_of data_))
   pub globals : map (λ text. Some text) (global_texts (tops_of (map datum_of data_))) ≡ map (λ g. slice_get unit.shared.names g.name.0) unit.shared.globals.items
   pub ops : map (λ text. Some text) (op_texts (tops_of (map datum_of data_))) ≡ map (λ o. slice_get unit.shared.names o.name.0) unit.shared.ops.items
   pub strings_once : AllPairs (λ k l. k ≢ l) (named_strings unit)
