@@ -2,10 +2,12 @@
 //! form (`specs/Given.antt`).
 #![tactic(auto)]
 
+mod definitions;
 mod refusal;
 mod rows;
 mod table;
 
+pub use crate::definitions::{Binder, Definition, defined_by, operator, twice};
 pub use crate::refusal::{Refusal, SyntaxKind};
 pub use crate::rows::{Part, Row, Shape};
 pub use crate::table::row;
