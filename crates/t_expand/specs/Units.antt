@@ -6,9 +6,9 @@ use Rattle.t_base.specs.declared.basics.Span.{Span}
 use Rattle.t_reader.specs.Grammar.{symbol}
 use Rattle.t_objects.specs.declared.words.Word.{Word}
 use Rattle.t_objects.specs.declared.words.Word.TheVariants as word
-use Rattle.t_forms.specs.Data.{Datum, atom, cons, given, span_of, items_of, word_of, Name, written, made, is_same_name, Binder}
+use Rattle.t_forms.specs.Data.{Datum, atom, given, span_of, items_of, word_of, Name, written, made, is_same_name, Binder}
 use Rattle.t_forms.specs.Names.{Meaning, Bound, bound, a_global, an_op, defined_as}
-use Rattle.t_rows.specs.Rows.{Definition, define, lset, operation_form, definition_of_word}
+use Rattle.t_rows.specs.Rows.{Definition, define, lset, operation_form, definition_in}
 
 -- a form at top level: one that defines a name, a defining form that is no row, or an expression
 pub data Top : Type 0 where
@@ -26,13 +26,12 @@ abbrev pub defining_or_broken : Span → Option Definition → Top
 defining_or_broken s None = broken s
 defining_or_broken s (Some d) = defining d
 
-abbrev pub top_of_items : Datum → Option (List Datum) → Top
-top_of_items d (Some (f ∷ ds)) =
-    if is_defining (word_of f) then defining_or_broken (span_of d) (definition_of_word (span_of d) ds (word_of f)) else expression d
-top_of_items d _ = expression d
+abbrev pub defines : Option (List Datum) → Bool
+defines (Some (f ∷ ds)) = is_defining (word_of f)
+defines _ = false
 
 abbrev pub top_of : Datum → Top
-top_of d = top_of_items d (items_of d)
+top_of d = if defines (items_of d) then defining_or_broken (span_of d) (definition_in d) else expression d
 
 -- (herald ..) in front is no form
 abbrev pub is_herald_items : Option (List Datum) → Bool

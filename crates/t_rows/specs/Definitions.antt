@@ -25,8 +25,9 @@ abbrev pub IsBinder : List (List ℕ) → CodeBinder → Binder → Type 0
 IsBinder names c b = (c.at ≡ b.at) × IsName names c.name b.name
 
 abbrev pub AreBinders : List (List ℕ) → List CodeBinder → List Binder → Type 0
-AreBinders names cs [] = cs ≡ []
-AreBinders names cs (b ∷ bs) = (c : CodeBinder) × (others : List CodeBinder) × (cs ≡ c ∷ others) × IsBinder names c b × AreBinders names others bs
+AreBinders names [] [] = Unit {0}
+AreBinders names (c ∷ cs) (b ∷ bs) = IsBinder names c b × AreBinders names cs bs
+AreBinders names _ _ = ⊥
 
 abbrev pub IsDefault : List (List ℕ) → List Cell → Option ℕ → Option Datum → Type 0
 IsDefault names cells k None = k ≡ None

@@ -552,6 +552,14 @@ definition_of_word s ds (Some word.Lset) = lset_of ds
 definition_of_word s ds (Some word.DefineOperation) = define_operation_of s ds
 definition_of_word s ds _ = None
 
+abbrev pub definition_of_items : Span → Option (List Datum) → Option Definition
+definition_of_items s (Some (f ∷ ds)) = definition_of_word s ds (word_of f)
+definition_of_items s _ = None
+
+-- what a form at top level defines, where it is a row of a defining word
+abbrev pub definition_in : Datum → Option Definition
+definition_in d = definition_of_items (span_of d) (items_of d)
+
 -- elsewhere than at top level
 abbrev pub inner_definition : Span → Option Definition → Row
 inner_definition s (Some d) = bad NotTopLevel s

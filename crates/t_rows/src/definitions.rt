@@ -1,9 +1,9 @@
 // What a form at top level defines.
-ghost use Rattle.std.specs.Prelude.{◌≡◌, ◌≢◌, ◌∷◌, List, ℕ, Some, AllPairs, IfOk};
-ghost use Rattle.t_forms.specs.Data.{Datum, items_of, span_of, word_of};
+ghost use Rattle.std.specs.Prelude.{◌≡◌, ◌≢◌, List, ℕ, AllPairs, IfOk};
+ghost use Rattle.t_forms.specs.Data.{Datum, items_of};
 ghost use Rattle.t_forms.specs.Data.{Binder as SpecBinder};
 ghost use Rattle.t_forms.specs.Held.{Held, Extends};
-ghost use Rattle.t_rows.specs.Rows.{definition_of_word, twice};
+ghost use Rattle.t_rows.specs.Rows.{definition_in, twice};
 ghost use Rattle.t_rows.specs.Definitions.{head_of, IsOperator, IsDefinition, AreBinders};
 
 use crate::refusal::Refusal;
@@ -59,11 +59,10 @@ pub fn operator(forms: &Forms, key: u32) -> Option<u32>
     }
 }
 
-/// What a form defines, whose operator is DEFINE, LSET or DEFINE-OPERATION. A form that is no row defines nothing, nor does one with
-/// another operator. Cells are only added. The only error is the want of memory.
+/// What a form defines at top level. A form that isn't a row of DEFINE, LSET or DEFINE-OPERATION defines nothing. Cells are only added. The only error is the want of memory.
 pub fn defined_by(forms: &mut Forms, key: u32) -> Result<Option<Definition>, Memory>
     ensures grown { Extends forms.old forms.new }
-    ensures defines { (names : List (List ℕ)) (d : Datum) (f : Datum) (ds : List Datum) → Held names forms.old key d → items_of d ≡ Some (f ∷ ds) → IfOk result (λ r. IsDefinition names forms.new r (definition_of_word (span_of d) ds (word_of f))) }
+    ensures defines { (names : List (List ℕ)) (d : Datum) → Held names forms.old key d → IfOk result (λ r. IsDefinition names forms.new r (definition_in d)) }
 {
     Err(Memory)
 }
