@@ -80,9 +80,12 @@ entry d = record { name = (defined_name d).name; by = d }
 abbrev pub has_entry : Name → List Entry → Bool
 has_entry n entries = list_any (λ e. is_same_name e.name n) entries
 
--- the entries with that of a form put last if its name is new
+-- the entries with that of a definition put last if its name is new
+abbrev pub with_definition : List Entry → Definition → List Entry
+with_definition entries d = if has_entry (defined_name d).name entries then entries else entries ++ entry d ∷ []
+
 abbrev pub with_top : List Entry → Top → List Entry
-with_top entries (defining d) = if has_entry (defined_name d).name entries then entries else entries ++ entry d ∷ []
+with_top entries (defining d) = with_definition entries d
 with_top entries _ = entries
 
 abbrev pub entries_of : List Top → List Entry

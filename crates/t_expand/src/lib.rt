@@ -2,9 +2,11 @@
 //! refusal (`specs/Refusals.antt`). The types of its answers.
 #![tactic(auto)]
 
+mod entries;
 mod fault;
 pub mod laws;
 mod spans;
+mod tops;
 
 pub use crate::fault::SyntaxFault;
 pub use crate::spans::Spans;

@@ -1,0 +1,129 @@
+// The forms at top level.
+ghost use Rattle.std.specs.Prelude.{◌≡◌, List, ℕ, IfOk, drop};
+ghost use Rattle.t_forms.specs.Data.{Datum, items_of, span_of, word_of};
+ghost use Rattle.t_forms.specs.Held.{Held, AllHeld, Extends};
+ghost use Rattle.t_expand.specs.Units.{is_defining, defines, is_herald_items, without_herald, top_of, tops_of};
+ghost use Rattle.t_expand.specs.Tops.{IsTop, AreTops, is_herald_head};
+
+use std::alloc::Global;
+use t_base::{Memory, Names, Span};
+use t_forms::{Form, Forms};
+use t_objects::Word;
+use t_rows::{Definition, defined_by, operator};
+
+/// A form at top level: what it defines, the span of a defining form that is no row, or the place of an expression.
+#[derive(Drop)]
+pub enum Top {
+    Defining(Definition),
+    Broken(Span),
+    Expression(u32),
+}
+
+fn is_defining(word: Option<Word>) -> bool
+    ensures { result ≡ is_defining word }
+{
+    match word {
+        Some(Word::Define) => true,
+        Some(Word::Lset) => true,
+        Some(Word::DefineOperation) => true,
+        _ => false,
+    }
+}
+
+/// The reserved word that a form is.
+fn word(forms: &Forms, key: u32) -> Option<Word>
+    ensures { (names : List (List ℕ)) (d : Datum) → Held names forms.now key d → result ≡ word_of d }
+{
+    match forms.get(key) {
+        Some(cell) => match &cell.form {
+            Form::Word(word) => Some(*word),
+            _ => None,
+        },
+        None => None,
+    }
+}
+
+/// The span of a form.
+fn span(forms: &Forms, key: u32) -> Span
+    ensures { (names : List (List ℕ)) (d : Datum) → Held names forms.now key d → result ≡ span_of d }
+{
+    match forms.get(key) {
+        Some(cell) => cell.span,
+        None => Span { start: 0, end: 0 },
+    }
+}
+
+/// Whether a form's operator is a defining word.
+fn defines(forms: &Forms, key: u32) -> bool
+    ensures { (names : List (List ℕ)) (d : Datum) → Held names forms.now key d → result ≡ defines (items_of d) }
+{
+    match operator(forms, key) {
+        Some(head) => is_defining(word(forms, head)),
+        None => false,
+    }
+}
+
+fn top_of(forms: &mut Forms, key: u32) -> Result<Top, Memory>
+    ensures grown { Extends forms.old forms.new }
+    ensures top { (names : List (List ℕ)) (d : Datum) → Held names forms.old key d → IfOk result (λ t. IsTop names forms.new t (top_of d)) }
+{
+    if !defines(forms, key) {
+        return Ok(Top::Expression(key));
+    }
+    let at = span(forms, key);
+    match defined_by(forms, key)? {
+        Some(definition) => Ok(Top::Defining(definition)),
+        None => Ok(Top::Broken(at)),
+    }
+}
+
+/// Whether a form is the symbol `herald`.
+fn is_herald_head(forms: &Forms, names: &Names, key: u32) -> bool
+    ensures { (d : Datum) → Held names.now forms.now key d → result ≡ is_herald_head d }
+{
+    match forms.get(key) {
+        Some(cell) => match &cell.form {
+            Form::Sym(name) => name.0 < names.count() && names.text(*name) == b"herald".as_slice(),
+            _ => false,
+        },
+        None => false,
+    }
+}
+
+fn is_herald(forms: &Forms, names: &Names, key: u32) -> bool
+    ensures { (d : Datum) → Held names.now forms.now key d → result ≡ is_herald_items (items_of d) }
+{
+    match operator(forms, key) {
+        Some(head) => is_herald_head(forms, names, head),
+        None => false,
+    }
+}
+
+/// How many forms stand in front of those of the unit: a herald.
+fn heralds(forms: &Forms, names: &Names, keys: &[u32]) -> usize
+    ensures { (ds : List Datum) → AllHeld names.now forms.now keys.now ds → AllHeld names.now forms.now (drop result keys.now) (without_herald ds) }
+{
+    match keys.first() {
+        Some(key) => { if is_herald(forms, names, *key) { 1 } else { 0 } }
+        None => 0,
+    }
+}
+
+/// The forms at top level of these data, without a herald in front. Cells are only added. The only error is the want of memory.
+pub fn tops_of(
+    alloc: Global,
+    forms: &mut Forms,
+    names: &Names,
+    keys: &[u32],
+) -> Result<Vec<Top>, Memory>
+    ensures grown { Extends forms.old forms.new }
+    ensures tops { (ds : List Datum) → AllHeld names.now forms.old keys.now ds → IfOk result (λ tops. AreTops names.now forms.new tops.items (tops_of ds)) }
+{
+    let mut tops = Vec::new(alloc);
+    let first = heralds(forms, names, keys);
+    'forms: for at in first..keys.len() {
+        let top = top_of(forms, keys[at])?;
+        tops.push(top)?;
+    }
+    Ok(tops)
+}
