@@ -98,15 +98,20 @@ abbrev pub DefaultMeans : List Bound → Shared → Nodes → List Binder → Op
 DefaultMeans defined shared n ps None root = (twice ps ≡ []) × (n.nodes ≡ []) × (root ≡ 0)
 DefaultMeans defined shared n ps (Some d) root = RootMeans defined shared n d root
 
--- what a defining form stands for, by what its name means
-abbrev pub DefinitionMeans : List Bound → Shared → Nodes → FormKind → ℕ → Definition → Option Meaning → Type 0
-DefinitionMeans defined shared n k root (define b d) (Some (a_global g false)) = (k ≡ kind.Define g) × RootMeans defined shared n d root
-DefinitionMeans defined shared n k root (lset b d) (Some (a_global g true)) = (k ≡ kind.Lset g) × RootMeans defined shared n d root
-DefinitionMeans defined shared n k root (operation_form b ps d) (Some (an_op o)) = (k ≡ kind.Operation o) × DefaultMeans defined shared n ps d root
-DefinitionMeans defined shared n k root _ _ = ⊥
+abbrev pub ValueMeans : List Bound → Shared → Nodes → Definition → ℕ → Type 0
+ValueMeans defined shared n (define b d) root = RootMeans defined shared n d root
+ValueMeans defined shared n (lset b d) root = RootMeans defined shared n d root
+ValueMeans defined shared n (operation_form b ps d) root = DefaultMeans defined shared n ps d root
+
+-- the definition is kept as what its name means
+abbrev pub IsKind : FormKind → Definition → Option Meaning → Type 0
+IsKind k (define b d) (Some (a_global g false)) = k ≡ kind.Define g
+IsKind k (lset b d) (Some (a_global g true)) = k ≡ kind.Lset g
+IsKind k (operation_form b ps d) (Some (an_op o)) = k ≡ kind.Operation o
+IsKind k _ _ = ⊥
 
 abbrev pub TopMeans : List Bound → Shared → Nodes → FormKind → ℕ → Top → Type 0
-TopMeans defined shared n k root (defining d) = DefinitionMeans defined shared n k root d (meaning_of defined d)
+TopMeans defined shared n k root (defining d) = IsKind k d (meaning_of defined d) × ValueMeans defined shared n d root
 TopMeans defined shared n k root (broken s) = ⊥
 TopMeans defined shared n k root (expression d) = (k ≡ kind.Plain) × RootMeans defined shared n d root
 

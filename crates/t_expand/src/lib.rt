@@ -2,11 +2,16 @@
 //! refusal (`specs/Refusals.antt`). The types of its answers.
 #![tactic(auto)]
 
+mod driver;
+mod driver_first;
+mod driver_state;
 mod entries;
 mod fault;
 pub mod laws;
 mod spans;
 mod tops;
+mod unit_marks;
+mod unit_top;
 
 pub use crate::fault::SyntaxFault;
 pub use crate::spans::Spans;
