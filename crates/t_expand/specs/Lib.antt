@@ -1,7 +1,9 @@
+pub mod Checks
 pub mod Entries
 pub mod Growth
 pub mod Marks
 pub mod Meaning
+pub mod Outcome
 pub mod Refusals
 pub mod Rooted
 pub mod Tops

@@ -10,9 +10,14 @@ mod fault;
 pub mod laws;
 mod spans;
 mod tops;
+mod unit;
+mod unit_all;
+mod unit_checks;
 mod unit_marks;
+mod unit_size;
 mod unit_top;
 
 pub use crate::fault::SyntaxFault;
 pub use crate::spans::Spans;
+pub use crate::unit::{expand, expand_spans};
 pub use t_rows::SyntaxKind;

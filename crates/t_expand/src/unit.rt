@@ -1,0 +1,172 @@
+//! The core of a unit, or its first refusal.
+ghost use Rattle.std.specs.Prelude.{◌≡◌, ◌+◌, ◌≤◌, ◌^◌, true, List, length, map, sum_by, IfOk};
+ghost use Rattle.t_base.specs.declared.basics.Span.{Span};
+ghost use Rattle.t_reader.specs.Grammar.{Tree};
+ghost use Rattle.t_reader.specs.Unit.{HoldTrees, string_bytes};
+ghost use Rattle.t_reader.specs.Unit.{IsWhole as IsWholeText};
+ghost use Rattle.t_prim.specs.SharedParts.{HasLowerParts};
+ghost use Rattle.t_objects.specs.Operations.{IsTableOf};
+ghost use Rattle.t_core.specs.Counts.{bulk_of};
+ghost use Rattle.t_forms.specs.Data.{datum_of};
+ghost use Rattle.t_forms.specs.Held.{AllHeld};
+ghost use Rattle.t_rows.specs.declared.refusal.SyntaxKind.{SyntaxKind};
+ghost use Rattle.t_rows.specs.declared.refusal.Refusal.{Refusal as SpecRefusal};
+ghost use Rattle.t_rows.specs.Rows.{refusal};
+ghost use Rattle.t_expand.specs.Units.{tops_of};
+ghost use Rattle.t_expand.specs.Meaning.{IsCoreOf};
+ghost use Rattle.t_expand.specs.Refusals.{RefusedIn, IsFirstRefusal};
+ghost use Rattle.t_expand.specs.Outcome.{IsRefusedWith, IsStarted, IsSound, IsFinished};
+
+use crate::driver_state::{Expansion, NodeList};
+use crate::entries::{Entries, entries_of};
+use crate::fault::SyntaxFault;
+use crate::spans::Spans;
+use crate::tops::tops_of;
+use crate::unit_all::FormList;
+use crate::unit_checks::{are_strings_once, bytes_kept, bytes_read, is_whole};
+use crate::unit_size::largest;
+use std::alloc::Global;
+use t_base::{Memory, Names, Shared};
+use t_core::UnitCore;
+use t_forms::{Forms, Scope};
+use t_objects::OpTable;
+use t_reader::Unit;
+use t_rows::Refusal;
+
+/// The data of a text as cells.
+#[derive(Drop)]
+pub struct Loaded {
+    pub names: Names,
+    pub forms: Forms,
+    pub keys: Vec<u32>,
+}
+
+fn load(alloc: Global, unit: Unit) -> Result<Loaded, Memory>
+    ensures names { IfOk result (λ l. l.names ≡ unit.names) }
+    ensures held { (trees : List Tree) → HoldTrees unit.names unit.nodes.items unit.forms.items trees → IfOk result (λ l. AllHeld l.names l.forms l.keys.items (map datum_of trees)) }
+{
+    let _ = alloc;
+    let _ = unit;
+    Err(Memory)
+}
+
+/// Before the first form: nothing is bound, and nothing is made or refused yet.
+fn started(alloc: Global, names: Names, forms: Forms, entries: Entries) -> Expansion
+    ensures { IsStarted names forms entries result }
+{
+    let Entries {
+        table,
+        globals,
+        ops,
+    } = entries;
+    Expansion {
+        alloc,
+        forms,
+        scope: Scope::new(alloc, table),
+        shared: Shared {
+            names,
+            strings: Vec::new(alloc),
+            pairs: Vec::new(alloc),
+            globals,
+            ops,
+            size: 0,
+        },
+        nodes: NodeList::new(alloc),
+        next: 0,
+        first: None,
+    }
+}
+
+/// A unit as it must be: whole, with the operations of a table, each string named once, and strings that fit into so many bytes.
+fn is_sound(alloc: Global, unit: &UnitCore, ops: &OpTable, bytes: u64) -> Result<bool, Memory>
+    ensures { IfOk result (λ b. b ≡ true → IsSound bytes unit.now) }
+{
+    if unit.shared.ops.as_slice() != ops.ops.as_slice() {
+        return Ok(false);
+    }
+    if bytes_kept(unit.shared.strings.as_slice())? > bytes {
+        return Ok(false);
+    }
+    if !are_strings_once(alloc, unit)? {
+        return Ok(false);
+    }
+    is_whole(alloc, unit)
+}
+
+/// The unit of forms that are made.
+fn finished(
+    expansion: Expansion,
+    list: FormList,
+    ops: &OpTable,
+    bytes: u64,
+) -> Result<(UnitCore, Vec<Spans>), Memory>
+    ensures { IfOk result (λ x. IsFinished bytes expansion.shared list x.0 x.1.items) }
+{
+    let Expansion { alloc, shared, .. } = expansion;
+    let FormList { forms, spans } = list;
+    let size = largest(alloc, &shared, forms.as_slice())?;
+    let shared = Shared { size, ..shared };
+    let unit = UnitCore { shared, forms };
+    if is_sound(alloc, &unit, ops, bytes)? {
+        Ok((unit, spans))
+    } else {
+        Err(Memory)
+    }
+}
+
+/// The core of a unit with the spans of its nodes, or the first refusal of the unit.
+///
+/// The unit is whole, as `read_unit` gives it, and `ops` is what `resolve_ops` gives for it. `Ok` is a core of the data, with the spans
+/// of the data that its nodes stand for, a list for each form; it comes only where nothing is refused. `Err(Fault)` is the first refusal.
+/// `Err(Memory)` comes only where memory ran out.
+pub fn expand_spans(
+    alloc: Global,
+    unit: Unit,
+    ops: &OpTable,
+) -> Result<(UnitCore, Vec<Spans>), SyntaxFault>
+    requires whole { IsWholeText unit }
+    requires table { (trees : List Tree) → HoldTrees unit.names unit.nodes.items unit.forms.items trees → IsTableOf unit.names trees ops.now.ops.items }
+    ensures core { (trees : List Tree) → HoldTrees unit.names unit.nodes.items unit.forms.items trees → IfOk result (λ x. IsCoreOf trees x.0 x.1.items) }
+    ensures accepted { (trees : List Tree) (r : SpecRefusal) → HoldTrees unit.names unit.nodes.items unit.forms.items trees → RefusedIn (tops_of (map datum_of trees)) r → IfOk result (λ x. ⊥) }
+    ensures fault { (trees : List Tree) (kind : SyntaxKind) (span : Span) → HoldTrees unit.names unit.nodes.items unit.forms.items trees → result ≡ Err (SyntaxFault.Fault kind span) → IsFirstRefusal trees (refusal kind span) }
+    ensures refused { (trees : List Tree) (r : SpecRefusal) → HoldTrees unit.names unit.nodes.items unit.forms.items trees → IsFirstRefusal trees r → IsRefusedWith r result }
+    ensures bulk { IfOk result (λ x. bulk_of x.0 ≤ 2 ^ 31) }
+    ensures lower { IfOk result (λ x. HasLowerParts x.0.shared.pairs.items) }
+    ensures bytes { IfOk result (λ x. sum_by length x.0.shared.names + sum_by length x.0.shared.strings.items ≤ sum_by length unit.names + string_bytes unit.nodes.items + 2 ^ 12) }
+{
+    let bytes = bytes_read(unit.nodes.as_slice())?;
+    let Loaded {
+        names,
+        mut forms,
+        keys,
+    } = load(alloc, unit)?;
+    let tops = tops_of(alloc, &mut forms, &names, keys.as_slice())?;
+    let entries = entries_of(alloc, &names, tops.as_slice())?;
+    let mut expansion = started(alloc, names, forms, entries);
+    let list = expansion.expand_all(tops.as_slice())?;
+    match expansion.first {
+        Some(Refusal { kind, span }) => Err(SyntaxFault::Fault { kind, span }),
+        None => {
+            let made = finished(expansion, list, ops, bytes)?;
+            Ok(made)
+        }
+    }
+}
+
+/// The core of a unit, or the first refusal of the unit: the first half of what `expand_spans` gives, under its conditions.
+pub fn expand(alloc: Global, unit: Unit, ops: &OpTable) -> Result<UnitCore, SyntaxFault>
+    requires whole { IsWholeText unit }
+    requires table { (trees : List Tree) → HoldTrees unit.names unit.nodes.items unit.forms.items trees → IsTableOf unit.names trees ops.now.ops.items }
+    ensures core { (trees : List Tree) → HoldTrees unit.names unit.nodes.items unit.forms.items trees → IfOk result (λ u. (spans : List (List Span)) × IsCoreOf trees u spans) }
+    ensures accepted { (trees : List Tree) (r : SpecRefusal) → HoldTrees unit.names unit.nodes.items unit.forms.items trees → RefusedIn (tops_of (map datum_of trees)) r → IfOk result (λ u. ⊥) }
+    ensures fault { (trees : List Tree) (kind : SyntaxKind) (span : Span) → HoldTrees unit.names unit.nodes.items unit.forms.items trees → result ≡ Err (SyntaxFault.Fault kind span) → IsFirstRefusal trees (refusal kind span) }
+    ensures refused { (trees : List Tree) (r : SpecRefusal) → HoldTrees unit.names unit.nodes.items unit.forms.items trees → IsFirstRefusal trees r → IsRefusedWith r result }
+    ensures bulk { IfOk result (λ u. bulk_of u ≤ 2 ^ 31) }
+    ensures lower { IfOk result (λ u. HasLowerParts u.shared.pairs.items) }
+    ensures bytes { IfOk result (λ u. sum_by length u.shared.names + sum_by length u.shared.strings.items ≤ sum_by length unit.names + string_bytes unit.nodes.items + 2 ^ 12) }
+{
+    match expand_spans(alloc, unit, ops) {
+        Ok((unit, _)) => Ok(unit),
+        Err(fault) => Err(fault),
+    }
+}

@@ -1,0 +1,59 @@
+// All forms at top level become forms of the core.
+ghost use Rattle.std.specs.Prelude.{◌≡◌, ◌++◌, ◌∷◌, [], List, None, IfOk, OnOk};
+ghost use Rattle.t_base.specs.declared.shared_parts.Shared.{Shared as SharedParts};
+ghost use Rattle.t_forms.specs.Names.{Bound};
+ghost use Rattle.t_expand.specs.Growth.{IsGrown, Keeps, IsReady};
+ghost use Rattle.t_expand.specs.Tops.{AreTops};
+ghost use Rattle.t_expand.specs.Units.{Top as SpecTop};
+ghost use Rattle.t_expand.specs.Meaning.{FormsMean};
+ghost use Rattle.t_expand.specs.Refusals.{RefusedAmong, IsFirstOf};
+
+use crate::driver_state::Expansion;
+use crate::spans::Spans;
+use crate::tops::Top;
+use crate::unit_marks::no_marks;
+use crate::unit_top::Expanded;
+use t_base::Memory;
+use t_core::Form;
+
+/// The forms of a core, and the spans of the nodes of each.
+#[derive(Drop)]
+pub struct FormList {
+    pub forms: Vec<Form>,
+    pub spans: Vec<Spans>,
+}
+
+impl FormList {
+    /// Puts a form last. The only error is the want of memory.
+    fn add(&mut self, expanded: Expanded) -> Result<(), Memory>
+        ensures forms { OnOk result (self.new.forms.items ≡ self.old.forms.items ++ expanded.form ∷ []) }
+        ensures spans { OnOk result (self.new.spans.items ≡ self.old.spans.items ++ expanded.spans ∷ []) }
+    {
+        let Expanded { form, spans } = expanded;
+        self.forms.push(form)?;
+        self.spans.push(spans)?;
+        Ok(())
+    }
+}
+
+impl Expansion {
+    /// The forms of the core that the forms at top level stand for, if nothing is refused in the unit. Else the first refusal is noted.
+    /// The only error is the want of memory.
+    pub fn expand_all(&mut self, tops: &[Top]) -> Result<FormList, Memory>
+        ensures kept { OnOk result (Keeps self.old self.new) }
+        ensures refused { (ts : List SpecTop) (defined : List Bound) → IsReady self.old defined → AreTops self.old.shared.names self.old.forms tops.now ts → self.old.first ≡ None → OnOk result (IsFirstOf (RefusedAmong defined ts) self.new.first) }
+        ensures meant { (ts : List SpecTop) (defined : List Bound) → IsReady self.old defined → AreTops self.old.shared.names self.old.forms tops.now ts → self.old.first ≡ None → IfOk result (λ x. self.new.first ≡ None → (later : SharedParts) → IsGrown self.new.shared later → FormsMean defined later x.forms.items x.spans.items ts) }
+    {
+        let alloc = self.alloc;
+        let mut marks = no_marks(alloc, self.shared.names.count() as usize)?;
+        let mut list = FormList {
+            forms: Vec::new(alloc),
+            spans: Vec::new(alloc),
+        };
+        'tops: for top in tops {
+            let expanded = self.expand_top(marks.as_mut_slice(), top)?;
+            list.add(expanded)?;
+        }
+        Ok(list)
+    }
+}
