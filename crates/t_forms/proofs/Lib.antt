@@ -1,1 +1,4 @@
 pub mod Bindings
+pub mod Keeping
+pub mod Lists
+pub mod NewCells

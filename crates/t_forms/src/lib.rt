@@ -5,8 +5,11 @@
 
 mod arena;
 mod builtins;
+mod making;
+mod reading;
 mod scope;
 
 pub use crate::arena::{Cell, Form, Forms, New};
 pub use crate::builtins::builtin_of;
+pub use crate::making::Item;
 pub use crate::scope::{Defined, Local, LocalName, Meant, Scope};
