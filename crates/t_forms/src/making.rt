@@ -1,5 +1,5 @@
 // Forms that rows make.
-ghost use Rattle.std.specs.Prelude.{◌≡◌, ◌+◌, ◌++◌, List, ℕ, Some, option_map, IfOk};
+ghost use Rattle.std.specs.Prelude.{◌≡◌, ◌+◌, ◌++◌, List, ℕ, Some, length, option_map, IfOk, OnOk};
 ghost use Rattle.t_forms.specs.Data.{Datum, Atom, atom, cons, items_of, listed};
 ghost use Rattle.t_forms.specs.Held.{Held, Continues, IsAtom, IsItem, AllItems, Extends};
 
@@ -44,6 +44,8 @@ fn one_more(count: Option<u32>) -> Result<Option<u32>, Memory>
 impl Forms {
     /// Puts an atom last and gives its place. The only error is the want of memory.
     pub fn atom(&mut self, span: Span, form: Form) -> Result<u32, Memory>
+        ensures place { IfOk result (λ key. key ≡ length self.old) }
+        ensures count { OnOk result (length self.new ≡ length self.old + 1) }
         ensures grown { Extends self.old self.new }
         ensures held { (names : List (List ℕ)) (a : Atom) → IsAtom names form a → IfOk result (λ key. Held names self.new key (atom span a)) }
     {
@@ -53,6 +55,8 @@ impl Forms {
 
     /// Puts a pair last and gives its place. The only error is the want of memory.
     pub fn cons(&mut self, span: Span, head: u32, tail: u32) -> Result<u32, Memory>
+        ensures place { IfOk result (λ key. key ≡ length self.old) }
+        ensures count { OnOk result (length self.new ≡ length self.old + 1) }
         ensures grown { Extends self.old self.new }
         ensures held { (names : List (List ℕ)) (h t : Datum) → Held names self.old head h → Continues names self.old tail t → IfOk result (λ key. Held names self.new key (cons span h t)) }
     {
