@@ -1,5 +1,5 @@
 -- What is held stays held where cells are only added, and names too.
-use Rattle.std.proofs.Common.{◌≡◌, ℕ, ◌<◌, List, [], ◌∷◌, ◌++◌, length, slice_get, Option, Some, None, sym, ap, ◌∙◌, append_assoc, length-append, append-nil, arith}
+use Rattle.std.proofs.Common.{subst, ◌≡◌, ℕ, ◌<◌, List, [], ◌∷◌, ◌++◌, length, slice_get, Option, Some, None, sym, ap, ◌∙◌, append_assoc, length-append, append-nil, arith}
 use Rattle.std.proofs.lemmas.Option.{slice_get_within, slice_get-get_or, get_or_from_slice_get}
 use Rattle.std.proofs.Math.ListN.{get_or-append}
 use Rattle.t_base.specs.declared.basics.Span.{Span}
@@ -27,16 +27,22 @@ keeps_append xs more k x e =
     let within : k < length (xs ++ more) = omega (arith, length-append xs more) in
     slice_get-get_or (xs ++ more) k x within ∙ ap Some (get_or-append xs more x k below ∙ get_or_from_slice_get xs k x x e)
 
-pub keeps_extends : (cells larger : List Cell) → Extends cells larger → Keeps cells larger
-keeps_extends cells larger more = rw more.1 (keeps_append cells more.0)
+pub kept_at : {a b : List Cell} → Extends a b → Keeps a b
+kept_at {a = a} g k x e = subst (λ (cells : List Cell). slice_get cells k ≡ Some x) (sym g.is) (keeps_append a g.more k x e)
 
 -- ---- cells that go on
 
-pub extends_same : (cells : List Cell) → Extends cells cells
-extends_same cells = ([], sym (append-nil cells))
+pub extends_same : {a : List Cell} → Extends a a
+extends_same {a = a} = record { more = []; is = sym (append-nil a) }
 
-pub extends_then : (a b c : List Cell) → Extends a b → Extends b c → Extends a c
-extends_then a b c p q = (p.0 ++ q.0, q.1 ∙ ap (λ xs. xs ++ q.0) p.1 ∙ append_assoc a p.0 q.0)
+pub extends_equal : {a b : List Cell} → b ≡ a → Extends a b
+extends_equal {a = a} e = record { more = []; is = e ∙ sym (append-nil a) }
+
+pub extends_trans : {a b c : List Cell} → Extends a b → Extends b c → Extends a c
+extends_trans {a = a} g h = record { more = g.more ++ h.more; is = h.is ∙ ap (λ cells. cells ++ h.more) g.is ∙ append_assoc a g.more h.more }
+
+pub extends_one : {a b : List Cell} (x : Cell) → b ≡ a ++ x ∷ [] → Extends a b
+extends_one x e = record { more = x ∷ []; is = e }
 
 -- ---- under more names and cells
 
@@ -71,37 +77,34 @@ mutual
 
 -- ---- under more cells
 
-pub held_extends : (names : List (List ℕ)) (cells larger : List Cell) (k : ℕ) (d : Datum) → Extends cells larger → Held names cells k d → Held names larger k d
-held_extends names cells larger k d more h = held_kept names names cells larger k d (keeps_same names) (keeps_extends cells larger more) h
+pub held_grows : {a b : List Cell} → Extends a b → (names : List (List ℕ)) (k : ℕ) (d : Datum) → Held names a k d → Held names b k d
+held_grows {a = a} {b = b} g names k d h = held_kept names names a b k d (keeps_same names) (kept_at g) h
 
-pub continues_extends : (names : List (List ℕ)) (cells larger : List Cell) (k : ℕ) (d : Datum) → Extends cells larger → Continues names cells k d
-    → Continues names larger k d
-continues_extends names cells larger k d more h = continues_kept names names cells larger k d (keeps_same names) (keeps_extends cells larger more) h
+pub continues_grows : {a b : List Cell} → Extends a b → (names : List (List ℕ)) (k : ℕ) (d : Datum) → Continues names a k d → Continues names b k d
+continues_grows {a = a} {b = b} g names k d h = continues_kept names names a b k d (keeps_same names) (kept_at g) h
 
-pub all_held_extends : (names : List (List ℕ)) (cells larger : List Cell) (ks : List ℕ) (ds : List Datum) → Extends cells larger → AllHeld names cells ks ds
-    → AllHeld names larger ks ds
-all_held_extends names cells larger [] [] more h = tt
-all_held_extends names cells larger [] (d ∷ ds) more h = absurd h
-all_held_extends names cells larger (k ∷ ks) [] more h = absurd h
-all_held_extends names cells larger (k ∷ ks) (d ∷ ds) more h = (held_extends names cells larger k d more h.0, all_held_extends names cells larger ks ds more h.1)
+pub all_held_grow : {a b : List Cell} → Extends a b → (names : List (List ℕ)) (ks : List ℕ) (ds : List Datum) → AllHeld names a ks ds → AllHeld names b ks ds
+all_held_grow g names [] [] h = tt
+all_held_grow g names [] (d ∷ ds) h = absurd h
+all_held_grow g names (k ∷ ks) [] h = absurd h
+all_held_grow g names (k ∷ ks) (d ∷ ds) h = (held_grows g names k d h.0, all_held_grow g names ks ds h.1)
 
-pub item_extends : (names : List (List ℕ)) (cells larger : List Cell) (s : Span) (i : Item) (d : Datum) → Extends cells larger → IsItem names cells s i d
-    → IsItem names larger s i d
-item_extends names cells larger s (item.Form k) d more h = held_extends names cells larger k d more h
-item_extends names cells larger s (item.Word w) d more h = h
-item_extends names cells larger s (item.Variable v) d more h = h
-item_extends names cells larger s (item.Builtin p) d more h = h
-item_extends names cells larger s (item.Operation o) d more h = h
-item_extends names cells larger s item.Listing d more h = h
-item_extends names cells larger s item.Nil d more h = h
-item_extends names cells larger s item.True d more h = h
+pub item_grows : {a b : List Cell} → Extends a b → (names : List (List ℕ)) (s : Span) (i : Item) (d : Datum) → IsItem names a s i d → IsItem names b s i d
+item_grows g names s (item.Form k) d h = held_grows g names k d h
+item_grows g names s (item.Word w) d h = h
+item_grows g names s (item.Variable v) d h = h
+item_grows g names s (item.Builtin p) d h = h
+item_grows g names s (item.Operation o) d h = h
+item_grows g names s item.Listing d h = h
+item_grows g names s item.Nil d h = h
+item_grows g names s item.True d h = h
 
-pub all_items_extend : (names : List (List ℕ)) (cells larger : List Cell) (s : Span) (is : List Item) (ds : List Datum) → Extends cells larger
-    → AllItems names cells s is ds → AllItems names larger s is ds
-all_items_extend names cells larger s [] [] more h = tt
-all_items_extend names cells larger s [] (d ∷ ds) more h = absurd h
-all_items_extend names cells larger s (i ∷ is) [] more h = absurd h
-all_items_extend names cells larger s (i ∷ is) (d ∷ ds) more h = (item_extends names cells larger s i d more h.0, all_items_extend names cells larger s is ds more h.1)
+pub all_items_grow : {a b : List Cell} → Extends a b → (names : List (List ℕ)) (s : Span) (is : List Item) (ds : List Datum) → AllItems names a s is ds
+    → AllItems names b s is ds
+all_items_grow g names s [] [] h = tt
+all_items_grow g names s [] (d ∷ ds) h = absurd h
+all_items_grow g names s (i ∷ is) [] h = absurd h
+all_items_grow g names s (i ∷ is) (d ∷ ds) h = (item_grows g names s i d h.0, all_items_grow g names s is ds h.1)
 
 -- ---- under more names
 

@@ -11,7 +11,7 @@ use Rattle.t_reader.specs.declared.unit.Node.{Node}
 use Rattle.t_forms.specs.declared.arena.Cell.{Cell}
 use Rattle.t_forms.specs.Data.{Datum, given, atom, cons, datum_of}
 use Rattle.t_forms.specs.Held.{Held, AllHeld, Extends}
-use Rattle.t_forms.proofs.Keeping.{held_extends}
+use Rattle.t_forms.proofs.Keeping.{held_grows}
 
 pub holds_within : (names : List (List ℕ)) (nodes : List Node) (k : ℕ) (t : Tree) → Holds names nodes k t → k < length nodes
 holds_within names nodes k (leaf s v) h = slice_get_within nodes k (read s h.0) h.1
@@ -41,7 +41,7 @@ loaded_more names nodes old new node key n count place at new_ before k t below 
           let here : Holds names nodes n t = subst (λ (i : ℕ). Holds names nodes i t) same h in
           let made : IsLoaded names old new node n = subst (λ (i : ℕ). IsLoaded names old new node i) (place ∙ count) new_ in
           subst (λ (i : ℕ). Held names new i (datum_of t)) (sym same) (this_node names nodes old new node n at made before t here)
-      | inr (inl less) ↦ held_extends names old new k (datum_of t) new_.grown (before k t less h)
+      | inr (inl less) ↦ held_grows new_.grown names k (datum_of t) (before k t less h)
       | inr (inr more) ↦ absurd (omega arith)
     ]
 

@@ -12,7 +12,7 @@ use Rattle.t_forms.specs.declared.arena.Cell.{Cell}
 use Rattle.t_forms.specs.declared.making.Item.{Item}
 use Rattle.t_forms.specs.Data.{Atom, given, Datum, atom, cons, count_of, listed}
 use Rattle.t_forms.specs.Held.{cell, IsSymbol, IsAtom, Held, Continues, Extends, IsItem, AllItems}
-use Rattle.t_forms.proofs.Keeping.{held_extends, continues_extends, all_items_extend}
+use Rattle.t_forms.proofs.Keeping.{extends_one, held_grows, continues_grows, all_items_grow}
 
 pub last_cell : (cells new : List Cell) (k : ℕ) (c : Cell) → k ≡ length cells → new ≡ cells ++ c ∷ [] → slice_get new k ≡ Some c
 last_cell cells new k c at is =
@@ -34,7 +34,7 @@ continues_below names cells k (cons s head tail) h = slice_get_within cells k (c
 pub pair_held : (names : List (List ℕ)) (cells new : List Cell) (k : ℕ) (s : Span) (i j : ℕ) (n : Option ℕ) (h t : Datum) → k ≡ length cells
     → new ≡ cells ++ cell s (form.Pair i j n) ∷ [] → n ≡ count_of (cons s h t) → Held names cells i h → Continues names cells j t → Held names new k (cons s h t)
 pair_held names cells new k s i j n h t at is count held continues =
-    let more : Extends cells new = (cell s (form.Pair i j n) ∷ [], is) in
+    let more : Extends cells new = extends_one (cell s (form.Pair i j n)) is in
     let below : i < length cells = held_below names cells i h held in
     let below_too : j < length cells = continues_below names cells j t continues in (
       i,
@@ -42,8 +42,8 @@ pair_held names cells new k s i j n h t at is count held continues =
       last_cell cells new k (cell s (form.Pair i j n)) at is ∙ ap (λ m. Some (cell s (form.Pair i j m))) count,
       omega arith,
       omega arith,
-      held_extends names cells new i h more held,
-      continues_extends names cells new j t more continues,
+      held_grows more names i h held,
+      continues_grows more names j t continues,
     )
 
 pub word_is : (names : List (List ℕ)) (text : List ℕ) (w : Word) → word_named text ≡ Some w → IsAtom names (form.Word w) (given (symbol text))
@@ -92,7 +92,7 @@ left_less names cells larger s before left i ds others key next parts more made 
       front = l.front;
       back = l.last ∷ so.back;
       are = so.are ∙ ap (λ xs. xs ++ so.back) l.are ∙ append_assoc l.front (l.last ∷ []) so.back;
-      items = all_items_extend names cells larger s before l.front more l.before;
+      items = all_items_grow more names s before l.front l.before;
       held = made l.last (so.back ++ others) l.item so.held;
     }
 

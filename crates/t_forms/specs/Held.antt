@@ -84,8 +84,9 @@ AreItems names cells None keys = keys ≡ None
 AreItems names cells (Some ds) keys = (v : Vec ℕ) × (keys ≡ Some v) × AllHeld names cells v.items ds
 
 -- the second list of cells goes on the first
-abbrev pub Extends : List Cell → List Cell → Type 0
-Extends cells larger = (more : List Cell) × (larger ≡ cells ++ more)
+pub record Extends (cells larger : List Cell) : Type 0 where
+  pub more : List Cell
+  pub is : larger ≡ cells ++ more
 
 -- ---- what a row makes
 

@@ -1,5 +1,5 @@
 use Rattle.t_forms.specs.Data.{listed}
-use Rattle.t_forms.proofs.Keeping.{extends_then, all_items_extend}
+use Rattle.t_forms.proofs.Keeping.{extends_trans, all_items_grow}
 use Rattle.t_forms.proofs.Lists.{held_continues}
 use Rattle.t_forms.proofs.NewCells.{left_all, left_less, left_none}
 use Rattle.t_forms.proofs.arena.Forms.list_before.Goals as goal
@@ -9,13 +9,13 @@ items-init c = record {
   grown = c.in_ok-key.ensures.grown;
   held = λ names ds d others items continues e.
       left_all names c.relisted.new.self c.args.span c.args.items.now ds others c.in_ok-key.key
-      (all_items_extend names c.args.self.now c.relisted.new.self c.args.span c.args.items.now ds c.in_ok-key.ensures.grown items)
+      (all_items_grow c.in_ok-key.ensures.grown names c.args.span c.args.items.now ds items)
       (c.in_ok-key.ensures.held names d others continues e);
 }
 
 pub items-preserved : goal.items-preserved
 items-preserved c = record {
-  grown = extends_then c.args.self.now c.items.self c.item_before.new.self c.items.invariant.grown c.in_ok-key-2.ensures.grown;
+  grown = extends_trans c.items.invariant.grown c.in_ok-key-2.ensures.grown;
   held = λ names ds d others items continues e.
       left_less names c.items.self c.item_before.new.self c.args.span c.in-Some.before.now c.items.left.now c.in-Some.item.now ds others c.items.key c.in_ok-key-2.key
       c.in-Some.ensures.cases.0 c.in_ok-key-2.ensures.grown
