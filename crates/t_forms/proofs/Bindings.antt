@@ -76,12 +76,11 @@ here_or vars v i false f p h = passed vars v i f p h
 pub finds : (names : List (List ℕ)) (locals : List Local) (ns : List Name) (i : ℕ) (k : LocalName) (n : Name) → AllPairs (λ x y. x ≢ y) names
     → AreNames names (map (λ l. l.name) locals) ns → IsName names k n → Finds (map (λ l. l.var) locals) i (var_bound locals k) (place_from i ns n)
 finds names [] [] i k n apart are is = nowhere
-finds names [] (m ∷ ms) i k n apart are is = cc
-finds names (l ∷ ls) [] i k n apart are is = cc
+finds names [] (m ∷ ms) i k n apart are is = absurd are
+finds names (l ∷ ls) [] i k n apart are is = absurd are
 finds names (l ∷ ls) (m ∷ ms) i k n apart are is =
-    let first : IsName names l.name m = let e : l.name ≡ are.0 = cc in rw e are.3 in
-    let rest : AreNames names (map (λ l. l.name) ls) ms = let e : map (λ (l : Local). l.name) ls ≡ are.1 = cc in rw e are.4 in
-    rw (same_key names l.name k m n apart first is) (here_or (map (λ l. l.var) ls) l.var i (is_same_name m n) (var_bound ls k) (place_from (i + 1) ms n) (finds names ls ms (i + 1) k n apart rest is))
+    rw (same_key names l.name k m n apart are.0 is)
+    (here_or (map (λ l. l.var) ls) l.var i (is_same_name m n) (var_bound ls k) (place_from (i + 1) ms n) (finds names ls ms (i + 1) k n apart are.1 is))
 
 pub found_means : (vars : List Var) (f : Option Var) (p : Option ℕ) (v : Var) (otherwise : Meaning) → Finds vars 0 f p → f ≡ Some v
     → IsMeaning vars (meant.Local v) (or_else a_local p otherwise)

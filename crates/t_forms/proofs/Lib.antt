@@ -1,1 +1,5 @@
 pub mod Bindings
+pub mod Keeping
+pub mod Lists
+pub mod Loads
+pub mod NewCells

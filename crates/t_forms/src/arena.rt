@@ -1,6 +1,6 @@
 // Forms as cells: the data of a text, and what the rows of the table of forms make of them.
-ghost use Rattle.std.specs.Prelude.{◌≡◌, ◌++◌, ◌∷◌, [], length, slice_get, option_map, OnOk, IfOk};
-ghost use Rattle.t_forms.specs.Held.{cell};
+ghost use Rattle.std.specs.Prelude.{◌≡◌, ◌++◌, ◌∷◌, [], length, slice_get, option_map, OnOk, OnErr, IfOk};
+ghost use Rattle.t_forms.specs.Held.{cell, Extends};
 
 use std::alloc::Global;
 use std::marker::Model;
@@ -67,10 +67,11 @@ pub struct Cell {
     pub form: Form,
 }
 
-/// Forms as cells, which only grow. Contracts see the list of the cells.
+/// Forms as cells, which only grow. Contracts see the list of the cells. It keeps its allocator.
 #[derive(Drop)]
 pub struct Forms {
     cells: Vec<Cell>,
+    alloc: Global,
 }
 
 impl Model for Forms {
@@ -89,7 +90,13 @@ impl Forms {
     {
         Forms {
             cells: Vec::new(alloc),
+            alloc,
         }
+    }
+
+    /// Its allocator.
+    pub fn alloc(&self) -> Global {
+        self.alloc
     }
 
     /// How many cells there are. It takes no memory.
@@ -110,6 +117,8 @@ impl Forms {
     pub fn add(&mut self, span: Span, form: Form) -> Result<u32, Memory>
         ensures place { IfOk result (λ key. key ≡ length self.old) }
         ensures cells { OnOk result (self.new ≡ self.old ++ cell span form ∷ []) }
+        ensures err { OnErr result (self.new ≡ self.old) }
+        ensures grown { Extends self.old self.new }
     {
         let key = self.cells.len();
         if key >= u32::MAX as usize {
