@@ -1,5 +1,5 @@
 -- What a unit does with its LAMBDAs and names.
-use Rattle.std.specs.Prelude.{ℕ, zero, suc, ◌+◌, Bool, true, false, not, ◌&&◌, ◌==◌, List, [], ◌∷◌, ◌++◌, map, length, zip, filter, filter_map, Option, Some, None, slice_get, option_map, option_and_then, if◌then◌else◌}
+use Rattle.std.specs.Prelude.{ℕ, zero, suc, ◌+◌, Bool, true, false, not, ◌==◌, List, [], ◌∷◌, ◌++◌, map, length, zip, filter, filter_map, Option, Some, None, slice_get, option_map, option_and_then, if◌then◌else◌}
 use Rattle.std.specs.List.{flat_map, list_any, enumerate_from}
 use Rattle.std.specs.Option.{option_map_or}
 use Rattle.t_base.specs.declared.basics.Var.{Var}
@@ -10,7 +10,7 @@ use Rattle.t_core.specs.declared.forms.FormKind.TheVariants.{Define, Lset, Opera
 use Rattle.t_core.specs.declared.forms.Form.{Form}
 use Rattle.t_core.specs.declared.forms.UnitCore.{UnitCore}
 use Rattle.t_core.specs.Nodes.{parts_of, places_of, binders_of}
-use Rattle.t_meaning.specs.EscapeRules.{Subject, Lambda, Local, Global, is_same, is_in, Use, Operator, Operand, ValueOf, Assigned, Other, Occurrence, Procedure, Known, Reach, Facts, is_used, reached_from}
+use Rattle.t_meaning.specs.EscapeRules.{Subject, Lambda, Local, Global, is_same, Use, Operator, Operand, ValueOf, Assigned, Other, Occurrence, Procedure, Known, Facts, is_used, reached_from}
 
 -- a form: what it defines, its nodes, and the place of its root
 pub record Tree : Type 0 where
