@@ -3,8 +3,8 @@ use Rattle.std.proofs.Common.{◌≡◌, ℕ, zero, suc, ◌⊎◌, inl, inr, �
 use Rattle.std.specs.List.{list_any, flat_map}
 use Rattle.std.proofs.lemmas.Bool.{and_parts, and_from, or_parts, or_cases, or_left, or_right, eq-eqb, false_from_ne_true, not-true, not_from_false, false≢true, both_ways}
 use Rattle.t_base.specs.declared.basics.Var.{Var}
-use Rattle.t_meaning.specs.EscapeRules.{Subject, Lambda, Local, Global, is_same, is_in, is_lambda, Use, Operator, Operand, ValueOf, Assigned, Other, Occurrence, Procedure, Known, Facts, Marking, is_used, is_known, keeps_lambda, keeps_name, escapes_by_place, escapes_by_use, escapes_by_reach, escapes_by_name, escapes_by_a_rule, repeated, marks}
-use Rattle.t_meaning.specs.EscapeFacts.{trees_of, in_forms, in_nodes, params_of, occurrences_in, procedures_in, is_assignment, known_by, known_names}
+use Rattle.t_meaning.specs.EscapeRules.{Subject, Lambda, Local, Global, is_same, is_in, is_lambda, Role, Operator, Operand, ValueOf, Assigned, Other, Occurrence, Abstraction, Known, Facts, MarkSet, stands_as, is_known, keeps_lambda, keeps_name, escapes_by_place, escapes_by_use, escapes_by_reach, escapes_by_name, escapes_by_a_rule, repeated, marks}
+use Rattle.t_meaning.specs.EscapeFacts.{trees_of, in_forms, in_nodes, params_of, occurrences_in, abstractions_in, is_assignment, known_by, known_names}
 use Rattle.t_meaning.specs.Escape.{node_total, facts_of_unit, is_operator, is_only_called, is_called_there, CalledNamesStay, CalledLambdasStay}
 use Rattle.t_meaning.proofs.EscapeRounds.{any_more, same_is, filter_in}
 use Rattle.t_meaning.proofs.EscapeLaws.{or_four}
@@ -48,17 +48,17 @@ unmarked facts s h zero = refl
 unmarked facts s h (suc n) = false_from_ne_true _ (λ e. h n (filter_in (escapes_by_a_rule facts (is_in (marks n facts))) facts.subjects s e).1)
 
 -- a use that isn't kept is another one than those that are
-used_more : (occurrences : List Occurrence) (s : Subject) (p q : Use → Bool) → ((u : Use) → p u ≡ true → q u ≡ true) → is_used occurrences p s ≡ true → is_used occurrences q s ≡ true
-used_more occurrences s p q h = any_more _ _ (λ o e. let both = and_parts (is_same s o.subject) (p o.use_) e in and_from (is_same s o.subject) (q o.use_) both.0 (h o.use_ both.1)) occurrences
+stands_more : (occurrences : List Occurrence) (s : Subject) (p q : Role → Bool) → ((u : Role) → p u ≡ true → q u ≡ true) → stands_as occurrences p s ≡ true → stands_as occurrences q s ≡ true
+stands_more occurrences s p q h = any_more _ _ (λ o e. let both = and_parts (is_same s o.subject) (p o.role) e in and_from (is_same s o.subject) (q o.role) both.0 (h o.role both.1)) occurrences
 
-not_operator_of_name : (facts : Facts) (escapes : Marking) (s : Subject) (u : Use) → not (keeps_name facts escapes s u) ≡ true → not (is_operator u) ≡ true
+not_operator_of_name : (facts : Facts) (escapes : MarkSet) (s : Subject) (u : Role) → not (keeps_name facts escapes s u) ≡ true → not (is_operator u) ≡ true
 not_operator_of_name facts escapes s Operator e = e
 not_operator_of_name facts escapes s (Operand callee place tail) e = refl
 not_operator_of_name facts escapes s (ValueOf name) e = refl
 not_operator_of_name facts escapes s Assigned e = refl
 not_operator_of_name facts escapes s Other e = refl
 
-not_called_there : (facts : Facts) (escapes : Marking) (u : Use) → not (keeps_lambda facts escapes u) ≡ true → not (is_called_there facts u) ≡ true
+not_called_there : (facts : Facts) (escapes : MarkSet) (u : Role) → not (keeps_lambda facts escapes u) ≡ true → not (is_called_there facts u) ≡ true
 not_called_there facts escapes Operator e = e
 not_called_there facts escapes (ValueOf name) e = by_test (is_known facts name) (is_only_called facts name) e
   where
@@ -76,12 +76,12 @@ name_unmarked facts s called = unmarked facts s none
   where
     none : (n : ℕ) → escapes_by_a_rule facts (is_in (marks n facts)) s ≡ true → ⊥
     none n e =
-        let escapes : Marking = is_in (marks n facts) in
-        let parts = or_parts (is_lambda s || is_in facts.params s) (is_used facts.occurrences (λ u. not (is_operator u)) s) (not-true _ called) in
+        let escapes : MarkSet = is_in (marks n facts) in
+        let parts = or_parts (is_lambda s || is_in facts.params s) (stands_as facts.occurrences (λ u. not (is_operator u)) s) (not-true _ called) in
         let kinds = or_parts (is_lambda s) (is_in facts.params s) parts.0 in
         false≢true (or_four (escapes_by_place facts escapes s) (escapes_by_use facts escapes s) (escapes_by_reach facts escapes s) (escapes_by_name facts escapes s) e false
         (λ h. sym kinds.0 ∙ (and_parts (is_lambda s) _ h).0)
-        (λ h. sym parts.1 ∙ used_more facts.occurrences s _ _ (not_operator_of_name facts escapes s) (and_parts (not (is_lambda s)) _ h).1)
+        (λ h. sym parts.1 ∙ stands_more facts.occurrences s _ _ (not_operator_of_name facts escapes s) (and_parts (not (is_lambda s)) _ h).1)
         (λ h. sym kinds.1 ∙ (and_parts (is_in facts.params s) _ h).0)
         (λ h. sym kinds.0 ∙ (and_parts (is_lambda s) _ h).0))
 
@@ -91,28 +91,28 @@ called_names_stay unit name called = name_unmarked (facts_of_unit unit) name cal
 -- ---- LAMBDAs
 
 -- as the value of a name that escapes
-value_escapes : Marking → Use → Bool
+value_escapes : MarkSet → Role → Bool
 value_escapes escapes (ValueOf name) = escapes name
 value_escapes escapes _ = false
 
 -- a known name's LAMBDA stands as its value
-known_by_use : (occurrences : List Occurrence) (procedures : List Procedure) (escapes : Marking) (s : Subject) → list_any (λ k. is_same s k.procedure.lambda && escapes k.name) (known_names occurrences procedures) ≡ true → is_used occurrences (value_escapes escapes) s ≡ true
+known_by_role : (occurrences : List Occurrence) (abstractions : List Abstraction) (escapes : MarkSet) (s : Subject) → list_any (λ k. is_same s k.abstraction.lambda && escapes k.name) (known_names occurrences abstractions) ≡ true → stands_as occurrences (value_escapes escapes) s ≡ true
 unfolding value_escapes
-known_by_use occurrences procedures escapes s e = any_more _ _ (λ o. by_use o.subject o.use_) occurrences (any_flat_map _ _ occurrences e)
+known_by_role occurrences abstractions escapes s e = any_more _ _ (λ o. by_role o.subject o.role) occurrences (any_flat_map _ _ occurrences e)
   where
-    bound : (t name : Subject) (assigned : Bool) → list_any (λ k. is_same s k.procedure.lambda && escapes k.name) (if assigned then [] else map (λ p. let k : Known = record { name = name; procedure = p } in k) (filter (λ p. is_same t p.lambda) procedures)) ≡ true → (is_same s t && escapes name) ≡ true
+    bound : (t name : Subject) (assigned : Bool) → list_any (λ k. is_same s k.abstraction.lambda && escapes k.name) (if assigned then [] else map (λ p. let k : Known = record { name = name; abstraction = p } in k) (filter (λ p. is_same t p.lambda) abstractions)) ≡ true → (is_same s t && escapes name) ≡ true
     bound t name true h = absurd (false≢true h)
     bound t name false h =
-        any_kept _ _ _ _ (λ p here there. let both = and_parts (is_same s p.lambda) (escapes name) there in and_from (is_same s t) (escapes name) (subst (λ x. is_same s x ≡ true) (sym (same_is t p.lambda here)) both.0) both.1) procedures h
+        any_kept _ _ _ _ (λ p here there. let both = and_parts (is_same s p.lambda) (escapes name) there in and_from (is_same s t) (escapes name) (subst (λ x. is_same s x ≡ true) (sym (same_is t p.lambda here)) both.0) both.1) abstractions h
 
-    by_use : (t : Subject) (u : Use) → list_any (λ k. is_same s k.procedure.lambda && escapes k.name) (known_by occurrences procedures t u) ≡ true → (is_same s t && value_escapes escapes u) ≡ true
-    by_use t (ValueOf name) h = bound t name (is_used occurrences is_assignment name) h
-    by_use t Operator h = absurd (false≢true h)
-    by_use t (Operand callee place tail) h = absurd (false≢true h)
-    by_use t Assigned h = absurd (false≢true h)
-    by_use t Other h = absurd (false≢true h)
+    by_role : (t : Subject) (u : Role) → list_any (λ k. is_same s k.abstraction.lambda && escapes k.name) (known_by occurrences abstractions t u) ≡ true → (is_same s t && value_escapes escapes u) ≡ true
+    by_role t (ValueOf name) h = bound t name (stands_as occurrences is_assignment name) h
+    by_role t Operator h = absurd (false≢true h)
+    by_role t (Operand callee place tail) h = absurd (false≢true h)
+    by_role t Assigned h = absurd (false≢true h)
+    by_role t Other h = absurd (false≢true h)
 
-not_called_value : (facts : Facts) (n : ℕ) (u : Use) → value_escapes (is_in (marks n facts)) u ≡ true → not (is_called_there facts u) ≡ true
+not_called_value : (facts : Facts) (n : ℕ) (u : Role) → value_escapes (is_in (marks n facts)) u ≡ true → not (is_called_there facts u) ≡ true
 unfolding value_escapes
 not_called_value facts n (ValueOf name) e = not_from_false _ (false_from_ne_true _ (λ h. both_ways _ (name_unmarked facts name (and_parts (is_known facts name) _ h).1 n) e))
 not_called_value facts n Operator e = absurd (false≢true e)
@@ -127,12 +127,12 @@ called_lambdas_stay unit form node called = unmarked (facts_of_unit unit) (Lambd
     none n e =
         let facts : Facts = facts_of_unit unit in
         let s : Subject = Lambda form node in
-        let escapes : Marking = is_in (marks n facts) in
+        let escapes : MarkSet = is_in (marks n facts) in
         let vars : List Var = in_nodes (λ nodes. params_of) (trees_of unit) in
         let occurrences : List Occurrence = in_forms occurrences_in (trees_of unit) in
-        let procedures : List Procedure = in_forms procedures_in (trees_of unit) in
+        let abstractions : List Abstraction = in_forms abstractions_in (trees_of unit) in
         false≢true (or_four (escapes_by_place facts escapes s) (escapes_by_use facts escapes s) (escapes_by_reach facts escapes s) (escapes_by_name facts escapes s) e false
-        (λ h. sym called ∙ used_more occurrences s _ _ (not_called_there facts escapes) h)
+        (λ h. sym called ∙ stands_more occurrences s _ _ (not_called_there facts escapes) h)
         (λ h. h)
         (λ h. sym (lambda_is_no_local form node vars) ∙ (and_parts (is_in (map Local vars) s) _ h).0)
-        (λ h. sym called ∙ used_more occurrences s _ _ (not_called_value facts n) (known_by_use occurrences procedures escapes s h)))
+        (λ h. sym called ∙ stands_more occurrences s _ _ (not_called_value facts n) (known_by_role occurrences abstractions escapes s h)))

@@ -3,7 +3,7 @@ use Rattle.std.proofs.Common.{◌≡◌, ℕ, ⊎_elim, Bool, true, false, not, 
 use Rattle.std.specs.List.{list_any}
 use Rattle.std.specs.Option.{option_map_or}
 use Rattle.std.proofs.lemmas.Bool.{and_parts, and_from, or_cases, or_left, or_right, not-true, not_from_false, false_from_ne_true, both_ways}
-use Rattle.t_meaning.specs.EscapeRules.{Subject, is_same, is_in, is_lambda, Use, Operator, Operand, ValueOf, Assigned, Other, Known, Facts, Marking, is_known, keeps_operand, keeps_lambda, keeps_name, escapes_by_place, escapes_by_use, escapes_by_reach, escapes_by_name, escapes_by_a_rule, is_reached_by_step}
+use Rattle.t_meaning.specs.EscapeRules.{Subject, is_same, is_in, is_lambda, Role, Operator, Operand, ValueOf, Assigned, Other, Known, Facts, MarkSet, is_known, keeps_operand, keeps_lambda, keeps_name, escapes_by_place, escapes_by_use, escapes_by_reach, escapes_by_name, escapes_by_a_rule, is_reached_by_step}
 use Rattle.t_meaning.proofs.EscapeRounds.{any_more, Below, IsMonotone}
 
 -- ---- tests
@@ -19,22 +19,22 @@ not_more x y h e = not_from_false y (false_from_ne_true y (λ k. both_ways x (no
 
 -- ---- what keeps an operand, a LAMBDA or a name, keeps it where less is marked
 
-param_less : (a b : Marking) → Below a b → (o : Option Subject) → option_map_or (λ p. not (b p)) o false ≡ true → option_map_or (λ p. not (a p)) o false ≡ true
+param_less : (a b : MarkSet) → Below a b → (o : Option Subject) → option_map_or (λ p. not (b p)) o false ≡ true → option_map_or (λ p. not (a p)) o false ≡ true
 param_less a b h None e = e
 param_less a b h (Some p) e = not_more (b p) (a p) (h p) e
 
-operand_less : (facts : Facts) (a b : Marking) → Below a b → (callee : Subject) (place : ℕ) → keeps_operand facts b callee place ≡ true → keeps_operand facts a callee place ≡ true
+operand_less : (facts : Facts) (a b : MarkSet) → Below a b → (callee : Subject) (place : ℕ) → keeps_operand facts b callee place ≡ true → keeps_operand facts a callee place ≡ true
 operand_less facts a b h callee place =
-    any_more _ _ (λ (k : Known). and_more (is_same callee k.name) _ _ (param_less a b h (slice_get k.procedure.params place))) facts.known
+    any_more _ _ (λ (k : Known). and_more (is_same callee k.name) _ _ (param_less a b h (slice_get k.abstraction.params place))) facts.known
 
-lambda_less : (facts : Facts) (a b : Marking) → Below a b → (u : Use) → keeps_lambda facts b u ≡ true → keeps_lambda facts a u ≡ true
+lambda_less : (facts : Facts) (a b : MarkSet) → Below a b → (u : Role) → keeps_lambda facts b u ≡ true → keeps_lambda facts a u ≡ true
 lambda_less facts a b h Operator e = e
 lambda_less facts a b h (ValueOf name) e = e
 lambda_less facts a b h (Operand callee place tail) e = and_more (not tail) _ _ (operand_less facts a b h callee place) e
 lambda_less facts a b h Assigned e = e
 lambda_less facts a b h Other e = e
 
-name_less : (facts : Facts) (a b : Marking) → Below a b → (s : Subject) (u : Use) → keeps_name facts b s u ≡ true → keeps_name facts a s u ≡ true
+name_less : (facts : Facts) (a b : MarkSet) → Below a b → (s : Subject) (u : Role) → keeps_name facts b s u ≡ true → keeps_name facts a s u ≡ true
 name_less facts a b h s Operator e = e
 name_less facts a b h s (ValueOf other) e = e
 name_less facts a b h s (Operand callee place tail) e = and_more (not (tail && is_known facts s)) _ _ (operand_less facts a b h callee place) e
@@ -45,11 +45,11 @@ name_less facts a b h s Other e = e
 
 place_more : (facts : Facts) → IsMonotone (escapes_by_place facts)
 place_more facts a b h s =
-    and_more (is_lambda s) _ _ (any_more _ _ (λ o. and_more (is_same s o.subject) _ _ (not_more (keeps_lambda facts a o.use_) (keeps_lambda facts b o.use_) (lambda_less facts a b h o.use_))) facts.occurrences)
+    and_more (is_lambda s) _ _ (any_more _ _ (λ o. and_more (is_same s o.subject) _ _ (not_more (keeps_lambda facts a o.role) (keeps_lambda facts b o.role) (lambda_less facts a b h o.role))) facts.occurrences)
 
 use_more : (facts : Facts) → IsMonotone (escapes_by_use facts)
 use_more facts a b h s =
-    and_more (not (is_lambda s)) _ _ (any_more _ _ (λ o. and_more (is_same s o.subject) _ _ (not_more (keeps_name facts a s o.use_) (keeps_name facts b s o.use_) (name_less facts a b h s o.use_))) facts.occurrences)
+    and_more (not (is_lambda s)) _ _ (any_more _ _ (λ o. and_more (is_same s o.subject) _ _ (not_more (keeps_name facts a s o.role) (keeps_name facts b s o.role) (name_less facts a b h s o.role))) facts.occurrences)
 
 reach_more : (facts : Facts) → IsMonotone (escapes_by_reach facts)
 reach_more facts a b h s =
@@ -57,7 +57,7 @@ reach_more facts a b h s =
     (λ e. e) (any_more _ _ (λ l e. let both = and_parts (a l.lambda) (is_in l.reached s) e in and_from (b l.lambda) (is_in l.reached s) (h l.lambda both.0) both.1) facts.lambdas))
 
 name_more : (facts : Facts) → IsMonotone (escapes_by_name facts)
-name_more facts a b h s = and_more (is_lambda s) _ _ (any_more _ _ (λ k. and_more (is_same s k.procedure.lambda) _ _ (h k.name)) facts.known)
+name_more facts a b h s = and_more (is_lambda s) _ _ (any_more _ _ (λ k. and_more (is_same s k.abstraction.lambda) _ _ (h k.name)) facts.known)
 
 pub rules_more : (facts : Facts) → IsMonotone (escapes_by_a_rule facts)
 rules_more facts a b h s =
@@ -67,5 +67,5 @@ rules_more facts a b h s =
 
 pub step_more : (known : List Known) (free : List Subject) → IsMonotone (is_reached_by_step known free)
 step_more known free a b h s =
-    or_more (is_in free s) (list_any (λ k. a k.name && is_in k.procedure.free s) known) (is_in free s) (list_any (λ k. b k.name && is_in k.procedure.free s) known)
-    (λ e. e) (any_more _ _ (λ k e. let both = and_parts (a k.name) (is_in k.procedure.free s) e in and_from (b k.name) (is_in k.procedure.free s) (h k.name both.0) both.1) known)
+    or_more (is_in free s) (list_any (λ k. a k.name && is_in k.abstraction.free s) known) (is_in free s) (list_any (λ k. b k.name && is_in k.abstraction.free s) known)
+    (λ e. e) (any_more _ _ (λ k e. let both = and_parts (a k.name) (is_in k.abstraction.free s) e in and_from (b k.name) (is_in k.abstraction.free s) (h k.name both.0) both.1) known)

@@ -4,7 +4,7 @@ use Rattle.std.proofs.Common.{◌≡◌, ℕ, zero, suc, ◌≤◌, ◌<◌, ◌
 use Rattle.std.specs.List.{list_any}
 use Rattle.std.proofs.lemmas.Bool.{and_parts, or_cases, or_left, or_right, eqb-true, cases_lt, false≢true, both_ways}
 use Rattle.t_base.specs.declared.basics.Var.{Var}
-use Rattle.t_meaning.specs.EscapeRules.{Subject, Lambda, Local, Global, is_same, is_in, Marking, Rule, repeated}
+use Rattle.t_meaning.specs.EscapeRules.{Subject, Lambda, Local, Global, is_same, is_in, MarkSet, Rule, repeated}
 
 -- ---- lists
 
@@ -67,11 +67,11 @@ filter_in p (x ∷ xs) s e = by_test (λ k. let both = filter_in p xs s k in (or
 -- ---- rounds
 
 -- what a marks, b marks
-abbrev pub Below : Marking → Marking → Type 0
+abbrev pub Below : MarkSet → MarkSet → Type 0
 Below a b = (s : Subject) → a s ≡ true → b s ≡ true
 
 abbrev pub IsMonotone : Rule → Type 0
-IsMonotone rule = (a b : Marking) → Below a b → Below (rule a) (rule b)
+IsMonotone rule = (a b : MarkSet) → Below a b → Below (rule a) (rule b)
 
 -- each round keeps what the one before it marked
 kept : (rule : Rule) → IsMonotone rule → (xs : List Subject) (n : ℕ) → Below (is_in (repeated n rule xs)) (is_in (repeated (suc n) rule xs))
@@ -107,7 +107,7 @@ unfolding repeated
 closed rule mono xs n le s there e = subst (λ ys. is_in ys s ≡ true) (settled rule mono xs n le) (in_filter (rule (is_in (repeated n rule xs))) xs s there e)
 
 -- what is marked at some round is marked by every marking that is closed
-pub least : (rule : Rule) → IsMonotone rule → (xs : List Subject) (marked : Marking) → ((s : Subject) → is_in xs s ≡ true → rule marked s ≡ true → marked s ≡ true) → (n : ℕ) → Below (is_in (repeated n rule xs)) marked
+pub least : (rule : Rule) → IsMonotone rule → (xs : List Subject) (marked : MarkSet) → ((s : Subject) → is_in xs s ≡ true → rule marked s ≡ true → marked s ≡ true) → (n : ℕ) → Below (is_in (repeated n rule xs)) marked
 unfolding repeated
 least rule mono xs marked h zero s e = absurd (false≢true e)
 least rule mono xs marked h (suc n) s e =

@@ -1,4 +1,4 @@
--- What a unit does with its LAMBDAs and names.
+-- Where the LAMBDAs and names of a unit stand, and what is free in them.
 use Rattle.std.specs.Prelude.{ℕ, zero, suc, ◌+◌, Bool, true, false, not, ◌==◌, List, [], ◌∷◌, ◌++◌, map, length, zip, filter, filter_map, Option, Some, None, slice_get, option_map, option_and_then, if◌then◌else◌}
 use Rattle.std.specs.List.{flat_map, list_any, enumerate_from}
 use Rattle.std.specs.Option.{option_map_or}
@@ -10,7 +10,7 @@ use Rattle.t_core.specs.declared.forms.FormKind.TheVariants.{Define, Lset, Opera
 use Rattle.t_core.specs.declared.forms.Form.{Form}
 use Rattle.t_core.specs.declared.forms.UnitCore.{UnitCore}
 use Rattle.t_core.specs.Nodes.{parts_of, places_of, binders_of}
-use Rattle.t_meaning.specs.EscapeRules.{Subject, Lambda, Local, Global, is_same, Use, Operator, Operand, ValueOf, Assigned, Other, Occurrence, Procedure, Known, Facts, is_used, reached_from}
+use Rattle.t_meaning.specs.EscapeRules.{Subject, Lambda, Local, Global, is_same, Role, Operator, Operand, ValueOf, Assigned, Other, Occurrence, Abstraction, Known, Facts, stands_as, reached_from}
 
 -- a form: what it defines, its nodes, and the place of its root
 pub record Tree : Type 0 where
@@ -37,46 +37,46 @@ abbrev pub subject_of : ℕ → ℕ → Core → Option Subject
 subject_of form k (Node.Lambda params body) = Some (Lambda form k)
 subject_of form k node = name_of node
 
-abbrev pub operand_use : Option Subject → ℕ → Bool → Use
-operand_use (Some callee) place tail = Operand callee place tail
-operand_use None place tail = Other
+abbrev pub operand_role : Option Subject → ℕ → Bool → Role
+operand_role (Some callee) place tail = Operand callee place tail
+operand_role None place tail = Other
 
--- the operands of a call, from that place on
-abbrev pub operand_uses : Option Subject → Bool → ℕ → List ℕ → List (ℕ × Use)
-operand_uses callee tail place [] = []
-operand_uses callee tail place (k ∷ operands) = (k, operand_use callee place tail) ∷ operand_uses callee tail (place + 1) operands
+-- the operands of a call, from that place on; where the operator is no name, they are operands of nothing that is known
+abbrev pub operand_roles : Option Subject → Bool → ℕ → List ℕ → List (ℕ × Role)
+operand_roles callee tail place [] = []
+operand_roles callee tail place (k ∷ operands) = (k, operand_role callee place tail) ∷ operand_roles callee tail (place + 1) operands
 
-abbrev pub bound_uses : List Var → List ℕ → ℕ → List (ℕ × Use)
-bound_uses vars values body = zip values (map (λ v. ValueOf (Local v)) vars) ++ (body, Other) ∷ []
+abbrev pub bound_roles : List Var → List ℕ → ℕ → List (ℕ × Role)
+bound_roles vars values body = zip values (map (λ v. ValueOf (Local v)) vars) ++ (body, Other) ∷ []
 
--- what each part of a node is there
-abbrev pub part_uses : List Core → Core → List (ℕ × Use)
-part_uses nodes (Node.Call operator operands tail) = (operator, Operator) ∷ operand_uses (option_and_then name_of (slice_get nodes operator)) tail 0 operands
-part_uses nodes (Node.Let vars values body) = bound_uses vars values body
-part_uses nodes (Node.Labels vars lambdas body) = bound_uses vars lambdas body
-part_uses nodes node = map (λ k. (k, Other)) (places_of node)
+-- the parts of a node, each with its role
+abbrev pub part_roles : List Core → Core → List (ℕ × Role)
+part_roles nodes (Node.Call operator operands tail) = (operator, Operator) ∷ operand_roles (option_and_then name_of (slice_get nodes operator)) tail 0 operands
+part_roles nodes (Node.Let vars values body) = bound_roles vars values body
+part_roles nodes (Node.Labels vars lambdas body) = bound_roles vars lambdas body
+part_roles nodes node = map (λ k. (k, Other)) (places_of node)
 
-abbrev pub root_use : FormKind → Use
-root_use (Define g) = ValueOf (Global g)
-root_use (Lset g) = Other
-root_use (Operation o) = Other
-root_use Plain = Other
+abbrev pub root_role : FormKind → Role
+root_role (Define g) = ValueOf (Global g)
+root_role (Lset g) = Other
+root_role (Operation o) = Other
+root_role Plain = Other
 
-abbrev pub occurrence : Subject → Use → Occurrence
-occurrence s u = record { subject = s; use_ = u }
+abbrev pub occurrence : Subject → Role → Occurrence
+occurrence s r = record { subject = s; role = r }
 
 abbrev pub assignment : Core → Option Occurrence
 assignment (Node.SetLocal v value) = Some (occurrence (Local v) Assigned)
 assignment (Node.SetGlobal g value) = Some (occurrence (Global g) Assigned)
 assignment _ = None
 
--- of what stands at a place of the form, if it is a LAMBDA or a name
-abbrev pub occurrence_at : ℕ → List Core → ℕ × Use → Option Occurrence
+-- what stands at a place of the form in that role, if it is a LAMBDA or a name
+abbrev pub occurrence_at : ℕ → List Core → ℕ × Role → Option Occurrence
 occurrence_at form nodes at = option_map (λ s. occurrence s at.1) (option_and_then (subject_of form at.0) (slice_get nodes at.0))
 
 abbrev pub occurrences_in : ℕ → Tree → List Occurrence
 occurrences_in form tree =
-    filter_map (occurrence_at form tree.nodes) ((tree.root, root_use tree.kind) ∷ flat_map (part_uses tree.nodes) tree.nodes)
+    filter_map (occurrence_at form tree.nodes) ((tree.root, root_role tree.kind) ∷ flat_map (part_roles tree.nodes) tree.nodes)
     ++ filter_map assignment tree.nodes
 
 -- ---- what is free
@@ -100,12 +100,12 @@ free_within nodes (suc depth) k =
 abbrev pub free_in : List Core → List Var → ℕ → List Subject
 free_in nodes params body = map Local (without params (free_within nodes (length nodes) body))
 
-abbrev pub procedure_of : ℕ → List Core → ℕ → Core → Option Procedure
-procedure_of form nodes k (Node.Lambda params body) = Some (record { lambda = Lambda form k; params = map Local params; free = free_in nodes params body })
-procedure_of form nodes k node = None
+abbrev pub abstraction_of : ℕ → List Core → ℕ → Core → Option Abstraction
+abstraction_of form nodes k (Node.Lambda params body) = Some (record { lambda = Lambda form k; params = map Local params; free = free_in nodes params body })
+abstraction_of form nodes k node = None
 
-abbrev pub procedures_in : ℕ → Tree → List Procedure
-procedures_in form tree = filter_map (λ n. procedure_of form tree.nodes n.0 n.1) (enumerate_from 0 tree.nodes)
+abbrev pub abstractions_in : ℕ → Tree → List Abstraction
+abstractions_in form tree = filter_map (λ n. abstraction_of form tree.nodes n.0 n.1) (enumerate_from 0 tree.nodes)
 
 -- what is free in each method of an object
 abbrev pub method_frees : List Core → Core → List (List Subject)
@@ -114,18 +114,18 @@ method_frees nodes node = []
 
 -- ---- names
 
-abbrev pub is_assignment : Use → Bool
+abbrev pub is_assignment : Role → Bool
 is_assignment Assigned = true
-is_assignment use_ = false
+is_assignment _ = false
 
--- the LAMBDA at o, under the name that it is bound to, if that is never assigned
-abbrev pub known_by : List Occurrence → List Procedure → Subject → Use → List Known
-known_by occurrences procedures s (ValueOf name) =
-    if is_used occurrences is_assignment name then [] else map (λ p. record { name = name; procedure = p }) (filter (λ p. is_same s p.lambda) procedures)
-known_by occurrences procedures s use_ = []
+-- the LAMBDA s in that role: under the name that it is bound to, if that is never assigned
+abbrev pub known_by : List Occurrence → List Abstraction → Subject → Role → List Known
+known_by occurrences abstractions s (ValueOf name) =
+    if stands_as occurrences is_assignment name then [] else map (λ a. record { name = name; abstraction = a }) (filter (λ a. is_same s a.lambda) abstractions)
+known_by occurrences abstractions s _ = []
 
-abbrev pub known_names : List Occurrence → List Procedure → List Known
-known_names occurrences procedures = flat_map (λ o. known_by occurrences procedures o.subject o.use_) occurrences
+abbrev pub known_names : List Occurrence → List Abstraction → List Known
+known_names occurrences abstractions = flat_map (λ o. known_by occurrences abstractions o.subject o.role) occurrences
 
 -- the parameters that a node binds
 abbrev pub params_of : Core → List Var
@@ -154,16 +154,16 @@ in_nodes f trees = flat_map (λ tree. flat_map (f tree.nodes) tree.nodes) trees
 -- what the rules look at, of a unit of these forms
 abbrev pub facts_of : List Tree → Facts
 facts_of trees =
-    let procedures = in_forms procedures_in trees in
+    let abstractions = in_forms abstractions_in trees in
     let names = flat_map names_in trees in
     let occurrences = in_forms occurrences_in trees in
-    let known = known_names occurrences procedures in
+    let known = known_names occurrences abstractions in
     let reached = reached_from known names in
     record {
-      subjects = map (λ p. p.lambda) procedures ++ names;
+      subjects = map (λ a. a.lambda) abstractions ++ names;
       params = map Local (in_nodes (λ nodes. params_of) trees);
       occurrences = occurrences;
       known = known;
-      lambdas = map (λ p. record { lambda = p.lambda; reached = reached p.free }) procedures;
+      lambdas = map (λ a. record { lambda = a.lambda; reached = reached a.free }) abstractions;
       methods = map reached (in_nodes method_frees trees);
     }
