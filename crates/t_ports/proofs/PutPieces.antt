@@ -36,7 +36,7 @@ length-text_of xs i k d within some =
     let piece : List ℕ = (slice_index_or xs i d).now in
     let after : List ℕ = text_of (drop (i + 1) xs) in
     let whole : length (text_of xs) ≡ (length before + length piece) + length after =
-        ap length (text_of-split xs i d within) ∙ length-append (before ++ piece) after ∙ ap (λ n. n + length after) (length-append before piece) in
+    ap length (text_of-split xs i d within) ∙ length-append (before ++ piece) after ∙ ap (λ n. n + length after) (length-append before piece) in
     subst (λ n. length before + k ≤ n) (sym whole) (omega arith)
 
 pub length-text_of-more : (xs : List (Bor (List ℕ))) (i : ℕ) (d : Bor (List ℕ)) → i < length xs → length (text_of (take (i + 1) xs)) ≡ length (text_of (take i xs)) + length (slice_index_or xs i d).now

@@ -1,12 +1,12 @@
-use Rattle.std.proofs.Common.{◌+◌, ◌-◌, ◌^◌, ◌≡◌, min, take, length, le_trans, ap, sym, ◌∙◌}
-use Rattle.t_ports.specs.Pieces.{text_of, TookCount}
+use Rattle.std.proofs.Common.{◌-◌, ◌^◌, min, le_trans, ap, sym, ◌∙◌}
+use Rattle.t_ports.specs.Pieces.{text_of}
 use Rattle.t_ports.proofs.PutPieces.{took_more, took_count, front, counts_on, length-text_of-more}
 use Rattle.t_ports.proofs.pieces.put_all.Goals as goal
 
 counted : goal.returns-in-Err-clause-err
 counted g c =
     took_count g.S.Sink.took g.met.S.Sink.took_both _ _ _ c.args.pieces.now c.pieces.piece-index c.in-Err.failed.taken _ _ c.pieces-test.true c.in-Err.ensures.err.0 c.pieces.invariant.taken c.in-Err.ensures.err.1
-        (c.saturating_add.ensures ∙ counts_on _ c.in-Err.failed.taken _ c.pieces.invariant.counted)
+    (c.saturating_add.ensures ∙ counts_on _ c.in-Err.failed.taken _ c.pieces.invariant.counted)
 
 pub returns-in-Err-clause-err : goal.returns-in-Err-clause-err
 returns-in-Err-clause-err g c = counted g c
