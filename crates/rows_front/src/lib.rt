@@ -4,4 +4,6 @@
 #![tactic(auto)]
 
 #[cfg(test)]
+mod outside;
+#[cfg(test)]
 mod reading;

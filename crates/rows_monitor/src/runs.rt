@@ -61,7 +61,7 @@ static TWO_PUTS: &[u8; 20] =
 fn a_run_goes_on_behind_a_put_that_failed(rt: HostRuntime) -> Result<(), Fail> {
     let mut program = load(rt.alloc(), TWO_PUTS, b"")?;
     let mut fail: Vec<(u32, u32)> = Vec::new(rt.alloc());
-    fail.push((0, 1))?;
+    fail.push((1, 0))?;
     let mut out = MemSink::new(rt.alloc(), 99, fail)?;
     assert_eq!(rt; run(&mut program, 9, &mut out), End::Sink);
     assert_eq!(rt; program.last_byte(), None);

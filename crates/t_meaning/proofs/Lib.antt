@@ -1,2 +1,7 @@
 pub mod Whole
 pub mod More
+pub mod EscapeRounds
+pub mod EscapeMonotone
+pub mod EscapeBounds
+pub mod EscapeLaws
+pub mod EscapeCalled

@@ -1,5 +1,7 @@
 //! Laws of the meaning of a unit.
 
+pub mod escape;
+
 ghost use Rattle.t_meaning.specs.Laws.{MoreBoundKeeps, MoreBoundWaits, EndsAtSomeBound};
 
 /// Where a unit has ended at a bound, every greater bound gives the same. Where it has not, a greater bound gives an output

@@ -30,7 +30,8 @@ impl OneFolder {
 }
 
 impl Folder for OneFolder {
-    ghost use Rattle.std.specs.Prelude.{None};
+    ghost use Rattle.std.specs.Prelude.{◌≡◌, None, Some, Ok};
+    ghost use Rattle.t_ports.specs.Memory.{GivesBytes};
 
     ghost files = { λ _. None };
 
@@ -38,7 +39,11 @@ impl Folder for OneFolder {
 
     ghost keep_faults = { λ _. 0 };
 
-    fn fetch(&mut self, alloc: Global, _name: &str, cap: usize) -> Result<Vec<u8>, FetchFault> {
+    fn fetch(&mut self, alloc: Global, _name: &str, cap: usize) -> Result<Vec<u8>, FetchFault>
+        // Its bytes stand under each name, and can be read.
+        ensures gives { GivesBytes (Some self.old) cap result }
+        ensures same { self.new ≡ self.old }
+    {
         if self.bytes.len() > cap {
             return Err(FetchFault::Long {
                 read: self.bytes.len(),
@@ -50,7 +55,10 @@ impl Folder for OneFolder {
         }
     }
 
-    fn keep(&mut self, _alloc: Global, _name: &str, _bytes: &[u8]) -> Result<(), KeepFault> {
+    fn keep(&mut self, _alloc: Global, _name: &str, _bytes: &[u8]) -> Result<(), KeepFault>
+        ensures drops { result ≡ Ok tt }
+        ensures same { self.new ≡ self.old }
+    {
         Ok(())
     }
 }
