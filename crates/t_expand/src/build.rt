@@ -210,7 +210,7 @@ fn call(alloc: Global, tail: bool, done: &[Done]) -> Result<Core, Memory>
 }
 
 /// A node without parts.
-fn leaf(core: Core, done: &[Done]) -> Result<Core, Memory>
+pub fn leaf(core: Core, done: &[Done]) -> Result<Core, Memory>
     ensures same { IfOk result (λ c. c ≡ core) }
     ensures none { OnOk result (done.now ≡ []) }
 {
