@@ -1,9 +1,12 @@
-pub mod Checks
+pub mod Building
+pub mod Driving
 pub mod Entries
+pub mod Expanding
 pub mod Growth
 pub mod Marks
 pub mod Meaning
 pub mod Outcome
+pub mod Quoting
 pub mod Refusals
 pub mod Rooted
 pub mod Tops

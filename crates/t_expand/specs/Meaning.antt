@@ -1,6 +1,5 @@
 -- The core of a unit: what it is for nodes to be what forms stand for.
 use Rattle.std.specs.Prelude.{◌≡◌, ◌≢◌, ℕ, Bool, true, false, List, [], ◌∷◌, ◌++◌, map, length, slice_get, AllPairs, Option, Some, None}
-use Rattle.std.specs.List.{flat_map}
 use Rattle.t_base.specs.declared.basics.Span.{Span}
 use Rattle.t_base.specs.declared.basics.Name.{Name as NamePlace}
 use Rattle.t_base.specs.declared.basics.Var.{Var}
@@ -17,6 +16,7 @@ use Rattle.t_core.specs.declared.forms.UnitCore.{UnitCore}
 use Rattle.t_core.specs.Nodes.{parts_of}
 use Rattle.t_core.specs.Nodes.{Part as NodePart}
 use Rattle.t_core.specs.Whole.{IsWhole}
+use Rattle.core_check.specs.Sound.{named_strings}
 use Rattle.t_forms.specs.Data.{Datum, atom, cons, given, span_of, datum_of, Binder}
 use Rattle.t_forms.specs.Names.{Scope, Bound, within, Meaning, a_global, an_op}
 use Rattle.t_rows.specs.Rows.{Definition, define, lset, operation_form, stands_for, node, Shape, constant, local, global, builtin_value, op_value, lambda, if_, block, let_, labels, set_local, set_global, catch_, object, call, primitive, Part, row, twice}
@@ -126,18 +126,6 @@ FormsMean defined shared (form ∷ forms) (spans ∷ others) (top ∷ tops) = Fo
 FormsMean defined shared _ _ _ = ⊥
 
 -- ---- units
-
--- the strings that nodes and pairs name
-abbrev pub string_in : Const → List ℕ
-string_in (Constant.Str k) = k ∷ []
-string_in _ = []
-
-abbrev pub string_of : Core → List ℕ
-string_of (Node.Const c) = string_in c
-string_of _ = []
-
-abbrev pub named_strings : UnitCore → List ℕ
-named_strings unit = flat_map (λ p. string_in p.0 ++ string_in p.1) unit.shared.pairs.items ++ flat_map (λ form. flat_map string_of form.nodes.items) unit.forms.items
 
 -- The unit is the core of the data: whole, which it isn't where a name is defined twice, each form what its datum stands for, each string
 -- literal a string of its own, and the names of globals and operations those that the data define. This much is free: the numbers of the

@@ -1,10 +1,9 @@
 -- What the expansion of a unit comes to.
-use Rattle.std.specs.Prelude.{◌≡◌, ◌≢◌, ◌⊎◌, ℕ, ◌≤◌, ◌^◌, List, [], length, sum_by, AllPairs, Result, Ok, Err, Some, None}
+use Rattle.std.specs.Prelude.{◌≡◌, ℕ, ◌≤◌, List, [], length, sum_by, Result, Ok, Err, None}
 use Rattle.t_base.specs.declared.basics.Span.{Span}
 use Rattle.t_base.specs.declared.shared_parts.Shared.{Shared}
 use Rattle.t_core.specs.declared.forms.UnitCore.{UnitCore}
-use Rattle.t_core.specs.Whole.{IsWhole}
-use Rattle.t_core.specs.Counts.{bulk_of}
+use Rattle.core_check.specs.Sound.{IsSound}
 use Rattle.t_forms.specs.declared.arena.Cell.{Cell}
 use Rattle.t_rows.specs.declared.refusal.Refusal.{Refusal}
 use Rattle.t_expand.specs.declared.driver_state.Expansion.{Expansion}
@@ -13,7 +12,6 @@ use Rattle.t_expand.specs.declared.fault.SyntaxFault.{SyntaxFault}
 use Rattle.t_expand.specs.declared.fault.SyntaxFault.TheVariants as faults
 use Rattle.t_expand.specs.declared.unit_all.FormList.{FormList}
 use Rattle.t_expand.specs.Growth.{IsGrown}
-use Rattle.t_expand.specs.Meaning.{named_strings}
 
 -- a refusal of this kind at this place, unless memory ran out
 abbrev pub IsRefusedWith : {A : Type 0} → Refusal → Result A SyntaxFault → Type 0
@@ -31,16 +29,10 @@ pub record IsStarted (names : List (List ℕ)) (forms : List Cell) (entries : En
   pub outside : e.scope.locals ≡ []
   pub first : e.first ≡ None
 
--- what is looked at once a unit is made
-pub record IsSound (bytes : ℕ) (unit : UnitCore) : Type 0 where
-  pub whole : IsWhole unit
-  pub bulk : bulk_of unit ≤ 2 ^ 31
-  pub strings_once : AllPairs (λ k l. k ≢ l) (named_strings unit)
-  pub room : sum_by length unit.shared.strings.items ≤ bytes
-
 -- the unit of these forms and shared parts
 pub record IsFinished (bytes : ℕ) (shared : Shared) (list : FormList) (unit : UnitCore) (spans : List (List Span)) : Type 0 where
-  pub sound : IsSound bytes unit
+  pub sound : IsSound unit
+  pub room : sum_by length unit.shared.strings.items ≤ bytes
   pub grown : IsGrown shared unit.shared
   pub globals : unit.shared.globals.items ≡ shared.globals.items
   pub ops : unit.shared.ops.items ≡ shared.ops.items

@@ -1,10 +1,12 @@
 // The first of the refusals so far.
-ghost use Rattle.std.specs.Prelude.{◌≡◌, ◌⊎◌, Some, Contains};
-ghost use Rattle.t_expand.specs.Refusals.{IsFirstOf, Precedes, number};
+ghost use Rattle.std.specs.Prelude.{◌≡◌, ◌⊎◌, Contains, Some};
+ghost use Rattle.t_expand.specs.Refusals.{number, Precedes};
+ghost use Rattle.t_expand.specs.Expanding.{IsCovered};
+ghost use Rattle.t_rows.specs.declared.refusal.Refusal.{Refusal as SpecRefusal};
 
 use t_rows::{Refusal, SyntaxKind};
 
-fn number(kind: SyntaxKind) -> u8
+fn number_of(kind: SyntaxKind) -> u8
     ensures { result ≡ number kind }
 {
     match kind {
@@ -22,12 +24,12 @@ fn number(kind: SyntaxKind) -> u8
 /// The refusal that stands first of these two.
 fn earlier(a: Refusal, b: Refusal) -> Refusal
     ensures one { (result ≡ a) ⊎ (result ≡ b) }
-    ensures before_first { Precedes result a }
-    ensures before_second { Precedes result b }
+    ensures first { Precedes result a }
+    ensures other { Precedes result b }
 {
     let is_before = a.span.start < b.span.start;
     let is_at = a.span.start == b.span.start;
-    if is_before || is_at && number(a.kind) <= number(b.kind) {
+    if is_before || is_at && number_of(a.kind) <= number_of(b.kind) {
         a
     } else {
         b
@@ -36,7 +38,9 @@ fn earlier(a: Refusal, b: Refusal) -> Refusal
 
 /// The first of a refusal, if there is one, and others.
 pub fn noted(first: Option<Refusal>, refusals: &[Refusal]) -> Option<Refusal>
-    ensures { IsFirstOf (λ r. (first ≡ Some r) ⊎ Contains refusals.now r) result }
+    ensures known { (r : SpecRefusal) → result ≡ Some r → (first ≡ Some r) ⊎ Contains refusals.now r }
+    ensures least { (r : SpecRefusal) → Contains refusals.now r → IsCovered result r }
+    ensures kept { (r : SpecRefusal) → first ≡ Some r → IsCovered result r }
 {
     let mut least = first;
     'refusals: for refusal in refusals {

@@ -2,17 +2,19 @@
 //! refusal (`specs/Refusals.antt`). The types of its answers.
 #![tactic(auto)]
 
+mod build;
 mod driver;
 mod driver_first;
 mod driver_state;
 mod entries;
 mod fault;
 pub mod laws;
+mod quoted;
 mod spans;
 mod tops;
 mod unit;
 mod unit_all;
-mod unit_checks;
+mod unit_bytes;
 mod unit_marks;
 mod unit_size;
 mod unit_top;

@@ -1,11 +1,10 @@
 // The forms at top level.
 ghost use Rattle.std.specs.Prelude.{◌≡◌, List, ℕ, IfOk, drop};
-ghost use Rattle.t_forms.specs.Data.{Datum, items_of, span_of, word_of};
+ghost use Rattle.t_forms.specs.Data.{Datum, items_of};
 ghost use Rattle.t_forms.specs.Held.{Held, AllHeld, Extends};
 ghost use Rattle.t_expand.specs.Units.{is_defining, defines, is_herald_items, without_herald, top_of, tops_of};
 ghost use Rattle.t_expand.specs.Tops.{IsTop, AreTops, is_herald_head};
 
-use std::alloc::Global;
 use t_base::{Memory, Names, Span};
 use t_forms::{Form, Forms};
 use t_objects::Word;
@@ -30,35 +29,12 @@ fn is_defining(word: Option<Word>) -> bool
     }
 }
 
-/// The reserved word that a form is.
-fn word(forms: &Forms, key: u32) -> Option<Word>
-    ensures { (names : List (List ℕ)) (d : Datum) → Held names forms.now key d → result ≡ word_of d }
-{
-    match forms.get(key) {
-        Some(cell) => match &cell.form {
-            Form::Word(word) => Some(*word),
-            _ => None,
-        },
-        None => None,
-    }
-}
-
-/// The span of a form.
-fn span(forms: &Forms, key: u32) -> Span
-    ensures { (names : List (List ℕ)) (d : Datum) → Held names forms.now key d → result ≡ span_of d }
-{
-    match forms.get(key) {
-        Some(cell) => cell.span,
-        None => Span { start: 0, end: 0 },
-    }
-}
-
 /// Whether a form's operator is a defining word.
 fn defines(forms: &Forms, key: u32) -> bool
     ensures { (names : List (List ℕ)) (d : Datum) → Held names forms.now key d → result ≡ defines (items_of d) }
 {
     match operator(forms, key) {
-        Some(head) => is_defining(word(forms, head)),
+        Some(head) => is_defining(forms.word(head)),
         None => false,
     }
 }
@@ -70,7 +46,7 @@ fn top_of(forms: &mut Forms, key: u32) -> Result<Top, Memory>
     if !defines(forms, key) {
         return Ok(Top::Expression(key));
     }
-    let at = span(forms, key);
+    let at = forms.span(key);
     match defined_by(forms, key)? {
         Some(definition) => Ok(Top::Defining(definition)),
         None => Ok(Top::Broken(at)),
@@ -110,16 +86,14 @@ fn heralds(forms: &Forms, names: &Names, keys: &[u32]) -> usize
 }
 
 /// The forms at top level of these data, without a herald in front. Cells are only added. The only error is the want of memory.
-pub fn tops_of(
-    alloc: Global,
-    forms: &mut Forms,
+pub fn tops_of(forms: &mut Forms,
     names: &Names,
     keys: &[u32],
 ) -> Result<Vec<Top>, Memory>
     ensures grown { Extends forms.old forms.new }
     ensures tops { (ds : List Datum) → AllHeld names.now forms.old keys.now ds → IfOk result (λ tops. AreTops names.now forms.new tops.items (tops_of ds)) }
 {
-    let mut tops = Vec::new(alloc);
+    let mut tops = Vec::new(forms.alloc());
     let first = heralds(forms, names, keys);
     'forms: for at in first..keys.len() {
         let top = top_of(forms, keys[at])?;

@@ -7,15 +7,15 @@ ghost use Rattle.t_reader.specs.Unit.{IsWhole as IsWholeText};
 ghost use Rattle.t_prim.specs.SharedParts.{HasLowerParts};
 ghost use Rattle.t_objects.specs.Operations.{IsTableOf};
 ghost use Rattle.t_core.specs.Counts.{bulk_of};
+ghost use Rattle.core_check.specs.Sound.{IsSound};
 ghost use Rattle.t_forms.specs.Data.{datum_of};
-ghost use Rattle.t_forms.specs.Held.{AllHeld};
 ghost use Rattle.t_rows.specs.declared.refusal.SyntaxKind.{SyntaxKind};
 ghost use Rattle.t_rows.specs.declared.refusal.Refusal.{Refusal as SpecRefusal};
 ghost use Rattle.t_rows.specs.Rows.{refusal};
 ghost use Rattle.t_expand.specs.Units.{tops_of};
 ghost use Rattle.t_expand.specs.Meaning.{IsCoreOf};
 ghost use Rattle.t_expand.specs.Refusals.{RefusedIn, IsFirstRefusal};
-ghost use Rattle.t_expand.specs.Outcome.{IsRefusedWith, IsStarted, IsSound, IsFinished};
+ghost use Rattle.t_expand.specs.Outcome.{IsRefusedWith, IsStarted, IsFinished};
 
 use crate::driver_state::{Expansion, NodeList};
 use crate::entries::{Entries, entries_of};
@@ -23,32 +23,16 @@ use crate::fault::SyntaxFault;
 use crate::spans::Spans;
 use crate::tops::tops_of;
 use crate::unit_all::FormList;
-use crate::unit_checks::{are_strings_once, bytes_kept, bytes_read, is_whole};
+use crate::unit_bytes::{bytes_kept, bytes_read};
 use crate::unit_size::largest;
+use core_check::is_sound;
 use std::alloc::Global;
 use t_base::{Memory, Names, Shared};
 use t_core::UnitCore;
-use t_forms::{Forms, Scope};
+use t_forms::{Forms, Scope, load};
 use t_objects::OpTable;
 use t_reader::Unit;
 use t_rows::Refusal;
-
-/// The data of a text as cells.
-#[derive(Drop)]
-pub struct Loaded {
-    pub names: Names,
-    pub forms: Forms,
-    pub keys: Vec<u32>,
-}
-
-fn load(alloc: Global, unit: Unit) -> Result<Loaded, Memory>
-    ensures names { IfOk result (λ l. l.names ≡ unit.names) }
-    ensures held { (trees : List Tree) → HoldTrees unit.names unit.nodes.items unit.forms.items trees → IfOk result (λ l. AllHeld l.names l.forms l.keys.items (map datum_of trees)) }
-{
-    let _ = alloc;
-    let _ = unit;
-    Err(Memory)
-}
 
 /// Before the first form: nothing is bound, and nothing is made or refused yet.
 fn started(alloc: Global, names: Names, forms: Forms, entries: Entries) -> Expansion
@@ -77,9 +61,11 @@ fn started(alloc: Global, names: Names, forms: Forms, entries: Entries) -> Expan
     }
 }
 
-/// A unit as it must be: whole, with the operations of a table, each string named once, and strings that fit into so many bytes.
-fn is_sound(alloc: Global, unit: &UnitCore, ops: &OpTable, bytes: u64) -> Result<bool, Memory>
-    ensures { IfOk result (λ b. b ≡ true → IsSound bytes unit.now) }
+/// Whether a unit is as it must be: with the operations of a table, and strings that fit into so many bytes. No test here fails on the
+/// unit of a text: where one does, the answer is want of memory.
+fn is_right(alloc: Global, unit: &UnitCore, ops: &OpTable, bytes: u64) -> Result<bool, Memory>
+    ensures sound { IfOk result (λ b. b ≡ true → IsSound unit.now) }
+    ensures room { IfOk result (λ b. b ≡ true → sum_by length unit.now.shared.strings.items ≤ bytes) }
 {
     if unit.shared.ops.as_slice() != ops.ops.as_slice() {
         return Ok(false);
@@ -87,10 +73,7 @@ fn is_sound(alloc: Global, unit: &UnitCore, ops: &OpTable, bytes: u64) -> Result
     if bytes_kept(unit.shared.strings.as_slice())? > bytes {
         return Ok(false);
     }
-    if !are_strings_once(alloc, unit)? {
-        return Ok(false);
-    }
-    is_whole(alloc, unit)
+    is_sound(alloc, unit)
 }
 
 /// The unit of forms that are made.
@@ -107,7 +90,7 @@ fn finished(
     let size = largest(alloc, &shared, forms.as_slice())?;
     let shared = Shared { size, ..shared };
     let unit = UnitCore { shared, forms };
-    if is_sound(alloc, &unit, ops, bytes)? {
+    if is_right(alloc, &unit, ops, bytes)? {
         Ok((unit, spans))
     } else {
         Err(Memory)
@@ -134,13 +117,14 @@ pub fn expand_spans(
     ensures lower { IfOk result (λ x. HasLowerParts x.0.shared.pairs.items) }
     ensures bytes { IfOk result (λ x. sum_by length x.0.shared.names + sum_by length x.0.shared.strings.items ≤ sum_by length unit.names + string_bytes unit.nodes.items + 2 ^ 12) }
 {
-    let bytes = bytes_read(unit.nodes.as_slice())?;
-    let Loaded {
+    let Unit {
         names,
-        mut forms,
-        keys,
-    } = load(alloc, unit)?;
-    let tops = tops_of(alloc, &mut forms, &names, keys.as_slice())?;
+        nodes,
+        forms: keys,
+    } = unit;
+    let bytes = bytes_read(nodes.as_slice())?;
+    let mut forms = load(alloc, nodes.as_slice(), &names)?;
+    let tops = tops_of(&mut forms, &names, keys.as_slice())?;
     let entries = entries_of(alloc, &names, tops.as_slice())?;
     let mut expansion = started(alloc, names, forms, entries);
     let list = expansion.expand_all(tops.as_slice())?;
