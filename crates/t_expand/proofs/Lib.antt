@@ -1,4 +1,4 @@
 pub mod FirstRefusals
-pub mod NodeLemmas
 pub mod QuotedLemmas
+pub mod RefusalLemmas
 pub mod SpellingLemmas

@@ -1,5 +1,5 @@
 -- What the expansion of one form does.
-use Rattle.std.specs.Prelude.{◌≡◌, ◌⊎◌, ℕ, false, Option, Some, None}
+use Rattle.std.specs.Prelude.{◌≡◌, ◌⊎◌, ℕ, false, List, Contains, Option, Some, None}
 use Rattle.t_forms.specs.Data.{Datum}
 use Rattle.t_forms.specs.Names.{Scope}
 use Rattle.t_forms.specs.Held.{Extends, vars_of}
@@ -22,6 +22,12 @@ pub record IsCovered (first : Option Refusal) (r : Refusal) : Type 0 where
   pub by : Refusal
   pub is : first ≡ Some by
   pub precedes : Precedes by r
+
+-- it is the first of a refusal, if there was one, and others
+pub record IsFirst (before : Option Refusal) (others : List Refusal) (first : Option Refusal) : Type 0 where
+  pub known : (r : Refusal) → first ≡ Some r → (before ≡ Some r) ⊎ Contains others r
+  pub least : (r : Refusal) → Contains others r → IsCovered first r
+  pub kept : (r : Refusal) → before ≡ Some r → IsCovered first r
 
 -- What was expanded is a datum in a scope. If nothing is refused in it, and nothing was before, the root is its node; else the first
 -- refusal is one of those before it and in it, and no other comes before it.

@@ -1,5 +1,3 @@
-pub mod Building
-pub mod Driving
 pub mod Entries
 pub mod Expanding
 pub mod Growth

@@ -1,7 +1,7 @@
 // The first of the refusals so far.
-ghost use Rattle.std.specs.Prelude.{◌≡◌, ◌⊎◌, Contains, Some};
+ghost use Rattle.std.specs.Prelude.{◌≡◌, ◌⊎◌, ◌++◌, ◌∷◌, [], List, Option, Some};
 ghost use Rattle.t_expand.specs.Refusals.{number, Precedes};
-ghost use Rattle.t_expand.specs.Expanding.{IsCovered};
+ghost use Rattle.t_expand.specs.Expanding.{IsFirst};
 ghost use Rattle.t_rows.specs.declared.refusal.Refusal.{Refusal as SpecRefusal};
 
 use t_rows::{Refusal, SyntaxKind};
@@ -36,18 +36,23 @@ fn earlier(a: Refusal, b: Refusal) -> Refusal
     }
 }
 
+/// The first of the refusals so far and one more.
+fn including(first: Option<Refusal>, other: Refusal) -> Refusal
+    ensures { (before : Option SpecRefusal) (seen : List SpecRefusal) → IsFirst before seen first → IsFirst before (seen ++ other ∷ []) (Some result) }
+{
+    match first {
+        None => other,
+        Some(refusal) => earlier(refusal, other),
+    }
+}
+
 /// The first of a refusal, if there is one, and others.
 pub fn noted(first: Option<Refusal>, refusals: &[Refusal]) -> Option<Refusal>
-    ensures known { (r : SpecRefusal) → result ≡ Some r → (first ≡ Some r) ⊎ Contains refusals.now r }
-    ensures least { (r : SpecRefusal) → Contains refusals.now r → IsCovered result r }
-    ensures kept { (r : SpecRefusal) → first ≡ Some r → IsCovered result r }
+    ensures { IsFirst first refusals.now result }
 {
     let mut least = first;
     'refusals: for refusal in refusals {
-        least = match least {
-            None => Some(*refusal),
-            Some(other) => Some(earlier(other, *refusal)),
-        };
+        least = Some(including(least, *refusal));
     }
     least
 }

@@ -52,6 +52,7 @@ impl NodeList {
     pub fn into_lists(self, alloc: Global) -> Result<(Vec<Core>, Vec<Span>), Memory>
         ensures nodes { IfOk result (λ lists. lists.0.items ≡ self.nodes) }
         ensures spans { IfOk result (λ lists. lists.1.items ≡ self.spans) }
+        ensures lengths { IfOk result (λ lists. length lists.1.items ≡ length lists.0.items) }
     {
         let mut nodes = Vec::new(alloc);
         let mut spans = Vec::new(alloc);

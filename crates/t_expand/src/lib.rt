@@ -2,7 +2,6 @@
 //! refusal (`specs/Refusals.antt`). The types of its answers.
 #![tactic(auto)]
 
-mod build;
 mod driver;
 mod driver_first;
 mod driver_state;

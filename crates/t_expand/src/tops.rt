@@ -86,10 +86,7 @@ fn heralds(forms: &Forms, names: &Names, keys: &[u32]) -> usize
 }
 
 /// The forms at top level of these data, without a herald in front. Cells are only added. The only error is the want of memory.
-pub fn tops_of(forms: &mut Forms,
-    names: &Names,
-    keys: &[u32],
-) -> Result<Vec<Top>, Memory>
+pub fn tops_of(forms: &mut Forms, names: &Names, keys: &[u32]) -> Result<Vec<Top>, Memory>
     ensures grown { Extends forms.old forms.new }
     ensures tops { (ds : List Datum) → AllHeld names.now forms.old keys.now ds → IfOk result (λ tops. AreTops names.now forms.new tops.items (tops_of ds)) }
 {
