@@ -40,7 +40,7 @@ impl Expansion {
     /// The forms of the core that the forms at top level stand for, if nothing is refused in the unit. Else the first refusal is noted.
     /// The only error is the want of memory.
     pub fn expand_all(&mut self, tops: &[Top]) -> Result<FormList, Memory>
-        ensures kept { OnOk result (Keeps self.old self.new) }
+        ensures kept { (ts : List SpecTop) (defined : List Bound) → IsReady self.old defined → AreTops self.old.shared.names self.old.forms tops.now ts → OnOk result (Keeps self.old self.new) }
         ensures refused { (ts : List SpecTop) (defined : List Bound) → IsReady self.old defined → AreTops self.old.shared.names self.old.forms tops.now ts → self.old.first ≡ None → OnOk result (IsFirstOf (RefusedAmong defined ts) self.new.first) }
         ensures meant { (ts : List SpecTop) (defined : List Bound) → IsReady self.old defined → AreTops self.old.shared.names self.old.forms tops.now ts → self.old.first ≡ None → IfOk result (λ x. self.new.first ≡ None → (later : SharedParts) → IsGrown self.new.shared later → FormsMean defined later x.forms.items x.spans.items ts) }
     {

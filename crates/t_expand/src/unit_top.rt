@@ -124,7 +124,7 @@ impl Expansion {
 
     /// The nodes of the form at a place, outside of which no name is bound.
     fn expand_root(&mut self, key: u32) -> Result<Rooted, Memory>
-        ensures kept { OnOk result (Keeps self.old self.new) }
+        ensures kept { (d : Datum) (defined : List Bound) → IsReady self.old defined → Held self.old.shared.names self.old.forms key d → OnOk result (Keeps self.old self.new) }
         ensures lengths { IfOk result (λ x. length x.spans.items ≡ length x.nodes.items) }
         ensures refused { (d : Datum) (defined : List Bound) → IsReady self.old defined → Held self.old.shared.names self.old.forms key d → OnOk result (IsFirstOf (λ r. (self.old.first ≡ Some r) ⊎ Refused (top_scope defined) d r) self.new.first) }
         ensures meant { (d : Datum) (defined : List Bound) → IsReady self.old defined → Held self.old.shared.names self.old.forms key d → IfOk result (λ x. self.new.first ≡ None → (later : SharedParts) → IsGrown self.new.shared later → RootMeans defined later (nodes_of x) d x.root) }
@@ -152,7 +152,7 @@ impl Expansion {
 
     /// The nodes of what a definition defines.
     fn expand_value(&mut self, definition: &Definition) -> Result<Rooted, Memory>
-        ensures kept { OnOk result (Keeps self.old self.new) }
+        ensures kept { (d : SpecDefinition) (defined : List Bound) → IsReady self.old defined → IsDefinitionOf self.old.shared.names self.old.forms definition.now d → OnOk result (Keeps self.old self.new) }
         ensures lengths { IfOk result (λ x. length x.spans.items ≡ length x.nodes.items) }
         ensures refused { (d : SpecDefinition) (defined : List Bound) → IsReady self.old defined → IsDefinitionOf self.old.shared.names self.old.forms definition.now d → OnOk result (IsFirstOf (λ r. (self.old.first ≡ Some r) ⊎ RefusedDefinition defined d r) self.new.first) }
         ensures meant { (d : SpecDefinition) (defined : List Bound) → IsReady self.old defined → IsDefinitionOf self.old.shared.names self.old.forms definition.now d → IfOk result (λ x. self.new.first ≡ None → (later : SharedParts) → IsGrown self.new.shared later → ValueMeans defined later (nodes_of x) d x.root) }
@@ -210,7 +210,7 @@ impl Expansion {
         marks: &mut [bool],
         definition: &Definition,
     ) -> Result<Expanded, Memory>
-        ensures kept { OnOk result (Keeps self.old self.new) }
+        ensures kept { (d : SpecDefinition) (defined : List Bound) → IsReady self.old defined → IsDefinitionOf self.old.shared.names self.old.forms definition.now d → OnOk result (Keeps self.old self.new) }
         ensures refused { (before : List SpecTop) (d : SpecDefinition) (defined : List Bound) → IsReady self.old defined → IsDefinitionOf self.old.shared.names self.old.forms definition.now d → Marks self.old.shared.names marks.old (names_defined before) → OnOk result (IsFirstOf (λ r. (self.old.first ≡ Some r) ⊎ RefusedTop defined before (defining d) r) self.new.first) }
         ensures marked { (before : List SpecTop) (d : SpecDefinition) (defined : List Bound) → IsReady self.old defined → IsDefinitionOf self.old.shared.names self.old.forms definition.now d → Marks self.old.shared.names marks.old (names_defined before) → OnOk result (Marks self.old.shared.names marks.new (names_defined (before ++ defining d ∷ []))) }
         ensures meant { (d : SpecDefinition) (defined : List Bound) → IsReady self.old defined → IsDefinitionOf self.old.shared.names self.old.forms definition.now d → IfOk result (λ x. self.new.first ≡ None → (later : SharedParts) → IsGrown self.new.shared later → FormMeans defined later x.form x.spans (defining d)) }
@@ -237,7 +237,7 @@ impl Expansion {
     /// The form of the core that a form at top level stands for, where nothing was refused so far. Else what is refused is noted. The
     /// only error is the want of memory.
     pub fn expand_top(&mut self, marks: &mut [bool], top: &Top) -> Result<Expanded, Memory>
-        ensures kept { OnOk result (Keeps self.old self.new) }
+        ensures kept { (t : SpecTop) (defined : List Bound) → IsReady self.old defined → IsTop self.old.shared.names self.old.forms top.now t → OnOk result (Keeps self.old self.new) }
         ensures refused { (before : List SpecTop) (t : SpecTop) (defined : List Bound) → IsReady self.old defined → IsTop self.old.shared.names self.old.forms top.now t → Marks self.old.shared.names marks.old (names_defined before) → OnOk result (IsFirstOf (λ r. (self.old.first ≡ Some r) ⊎ RefusedTop defined before t r) self.new.first) }
         ensures marked { (before : List SpecTop) (t : SpecTop) (defined : List Bound) → IsReady self.old defined → IsTop self.old.shared.names self.old.forms top.now t → Marks self.old.shared.names marks.old (names_defined before) → OnOk result (Marks self.old.shared.names marks.new (names_defined (before ++ t ∷ []))) }
         ensures meant { (t : SpecTop) (defined : List Bound) → IsReady self.old defined → IsTop self.old.shared.names self.old.forms top.now t → IfOk result (λ x. self.new.first ≡ None → (later : SharedParts) → IsGrown self.new.shared later → FormMeans defined later x.form x.spans t) }

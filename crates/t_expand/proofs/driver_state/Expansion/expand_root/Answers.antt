@@ -1,0 +1,22 @@
+use Rattle.t_forms.specs.Held.{vars_of}
+use Rattle.t_expand.specs.Meaning.{top_scope}
+use Rattle.t_expand.proofs.FirstLemmas.{first_of_expands}
+use Rattle.t_expand.proofs.GrowingLemmas.{root_means}
+use Rattle.t_expand.proofs.KeepingLemmas.{keeps_grows, no_vars}
+use Rattle.t_expand.proofs.driver_state.Expansion.expand_root.Goals as goal
+
+pub returns-clause-kept : goal.returns-clause-kept
+returns-clause-kept c d defined ready held =
+    let x = c.in_ok-root.ensures.expands d (top_scope defined) ready.distinct held ready.scope in
+    let k = keeps_grows _ _ c.in_ok-root.ensures.grows x.scope in
+    record { forms = k.forms; scope = k.scope; shared = k.shared; globals = k.globals; ops = k.ops }
+
+pub returns-clause-refused : goal.returns-clause-refused
+returns-clause-refused c d defined ready held =
+    first_of_expands _ _ (top_scope defined) d c.in_ok-root.root (c.in_ok-root.ensures.expands d (top_scope defined) ready.distinct held ready.scope)
+
+pub returns-clause-meant : goal.returns-clause-meant
+returns-clause-meant c d defined ready held none later grown =
+    let x = c.in_ok-root.ensures.expands d (top_scope defined) ready.distinct held ready.scope in
+    root_means defined c.expand_form.new.self.shared later c.expand_form.new.self.nodes c.in_ok-nodes.nodes.items c.in_ok-nodes.spans.items
+    (vars_of c.args.self.now.scope) d c.in_ok-root.root (cc c.in_ok-nodes.ensures.nodes) (cc c.in_ok-nodes.ensures.spans) (no_vars c.args.self.now defined ready) grown (x.means none)
