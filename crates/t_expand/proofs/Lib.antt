@@ -2,6 +2,9 @@ pub mod FirstLemmas
 pub mod FirstRefusals
 pub mod GrowingLemmas
 pub mod KeepingLemmas
+pub mod KindLemmas
+pub mod MarkLemmas
+pub mod PlaceLemmas
 pub mod QuotedLemmas
 pub mod RefusalLemmas
 pub mod SpellingLemmas
