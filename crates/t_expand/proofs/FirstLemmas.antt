@@ -1,10 +1,16 @@
 -- The first of the refusals that stand, put together from those of parts.
-use Rattle.std.proofs.Common.{◌≡◌, ◌⊎◌, inl, inr, List, Contains, Option, Some, None, refl, sym, subst, ◌∙◌}
+use Rattle.std.proofs.Common.{◌≡◌, ◌⊎◌, inl, inr, Bool, true, List, [], ◌∷◌, Contains, Option, Some, None, refl, sym, subst, arith, ◌∙◌}
+use Rattle.std.specs.List.{list_any}
+use Rattle.std.proofs.lemmas.List.Elements.{Contains-push, Contains-push_cases}
+use Rattle.t_base.specs.declared.basics.Span.{Span}
 use Rattle.std.proofs.lemmas.Option.{same_Some}
-use Rattle.t_forms.specs.Data.{Datum}
+use Rattle.t_forms.specs.Data.{Datum, Binder, is_same_name}
 use Rattle.t_forms.specs.Names.{Scope}
 use Rattle.t_rows.specs.declared.refusal.Refusal.{Refusal}
-use Rattle.t_expand.specs.Refusals.{Refused, Precedes, IsFirstOf}
+use Rattle.t_rows.specs.declared.refusal.SyntaxKind.TheVariants.{Twice}
+use Rattle.t_rows.specs.Rows.{refusal}
+use Rattle.t_expand.specs.Units.{Top, names_defined}
+use Rattle.t_expand.specs.Refusals.{Refused, Precedes, IsFirstOf, twice_defined}
 use Rattle.t_expand.specs.Expanding.{IsCovered, IsFirst, Expands}
 use Rattle.t_expand.specs.declared.driver_state.Expansion.{Expansion}
 use Rattle.t_expand.proofs.RefusalLemmas.{precedes_through, none_covers}
@@ -83,3 +89,53 @@ first_then P Q a b c h i =
 pub none_before : (P : Refusal → Type 0) (a : Option Refusal) → IsFirstOf (λ r. (a ≡ Some r) ⊎ P r) None → a ≡ None
 none_before P None h = refl
 none_before P (Some e) h = absurd (h e (inl refl))
+
+-- ---- lists of refusals
+
+pub first_lists : (a b : Option Refusal) (xs ys : List Refusal) → xs ≡ ys → IsFirstOf (λ r. (a ≡ Some r) ⊎ Contains xs r) b
+    → IsFirstOf (λ r. (a ≡ Some r) ⊎ Contains ys r) b
+first_lists a b xs ys e h = subst (λ zs. IsFirstOf (λ r. (a ≡ Some r) ⊎ Contains zs r) b) e h
+
+pub contains_none : (r : Refusal) → Contains [] r → ⊥
+contains_none r h = absurd (omega (arith, h.1))
+
+pub contains_one : (x r : Refusal) → Contains (x ∷ []) r → r ≡ x
+contains_one x r h = by (Contains-push_cases [] x r h)
+  where
+    by : Contains [] r ⊎ (x ≡ r) → r ≡ x
+    by (inl i) = absurd (contains_none r i)
+    by (inr e) = sym e
+
+pub first_one : (a b : Option Refusal) (x : Refusal) → IsFirstOf (λ r. (a ≡ Some r) ⊎ Contains (x ∷ []) r) b → IsFirstOf (λ r. (a ≡ Some r) ⊎ (r ≡ x)) b
+first_one a b x h = first_same (λ r. (a ≡ Some r) ⊎ Contains (x ∷ []) r) (λ r. (a ≡ Some r) ⊎ (r ≡ x)) b there back h
+  where
+    there : (r : Refusal) → (a ≡ Some r) ⊎ Contains (x ∷ []) r → (a ≡ Some r) ⊎ (r ≡ x)
+    there r (inl e) = inl e
+    there r (inr i) = inr (contains_one x r i)
+    back : (r : Refusal) → (a ≡ Some r) ⊎ (r ≡ x) → (a ≡ Some r) ⊎ Contains (x ∷ []) r
+    back r (inl e) = inl e
+    back r (inr e) = inr (subst (λ y. Contains (x ∷ []) y) (sym e) (Contains-push [] x))
+
+pub twice_is : (before : List Top) (b : Binder) (at : Span) (was : Bool) → was ≡ list_any (is_same_name b.name) (names_defined before) → was ≡ true
+    → at ≡ b.at → refusal Twice at ∷ [] ≡ twice_defined before b
+twice_is before b at was e t s = let found : list_any (is_same_name b.name) (names_defined before) ≡ true = sym e ∙ t in rw (found, s) refl
+
+pub first_right : (P Q : Refusal → Type 0) (a b : Option Refusal) → ((r : Refusal) → P r → Q r) → ((r : Refusal) → Q r → P r)
+    → IsFirstOf (λ r. (a ≡ Some r) ⊎ P r) b → IsFirstOf (λ r. (a ≡ Some r) ⊎ Q r) b
+first_right P Q a b there back h = first_same (λ r. (a ≡ Some r) ⊎ P r) (λ r. (a ≡ Some r) ⊎ Q r) b to from h
+  where
+    to : (r : Refusal) → (a ≡ Some r) ⊎ P r → (a ≡ Some r) ⊎ Q r
+    to r (inl e) = inl e
+    to r (inr p) = inr (there r p)
+    from : (r : Refusal) → (a ≡ Some r) ⊎ Q r → (a ≡ Some r) ⊎ P r
+    from r (inl e) = inl e
+    from r (inr q) = inr (back r q)
+
+-- nothing stands where nothing is first
+pub none_of : (P : Refusal → Type 0) (a b : Option Refusal) → b ≡ None → IsFirstOf (λ r. (a ≡ Some r) ⊎ P r) b → (r : Refusal) → P r → ⊥
+none_of P a None e h = λ r p. h r (inr p)
+none_of P a (Some f) e h = cc
+
+pub was_none : (P : Refusal → Type 0) (a b : Option Refusal) → b ≡ None → IsFirstOf (λ r. (a ≡ Some r) ⊎ P r) b → a ≡ None
+was_none P a None e h = none_before P a h
+was_none P a (Some f) e h = cc

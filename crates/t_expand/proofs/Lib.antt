@@ -8,3 +8,4 @@ pub mod PlaceLemmas
 pub mod QuotedLemmas
 pub mod RefusalLemmas
 pub mod SpellingLemmas
+pub mod ValueLemmas
