@@ -8,4 +8,5 @@ pub mod PlaceLemmas
 pub mod QuotedLemmas
 pub mod RefusalLemmas
 pub mod SpellingLemmas
+pub mod TopLemmas
 pub mod ValueLemmas

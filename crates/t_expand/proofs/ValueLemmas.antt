@@ -1,6 +1,6 @@
 -- What a definition defines, as a form.
-use Rattle.std.proofs.Common.{◌≡◌, ℕ, List, [], ◌∷◌, Contains, Option, Some, None, refl, sym, subst, arith}
-use Rattle.std.proofs.lemmas.List.Elements.{Contains-push, Contains-append_left}
+use Rattle.std.proofs.Common.{◌≡◌, ◌⊎◌, ℕ, List, [], ◌∷◌, Contains, Option, Some, None, Result, Ok, Err, IfOk, OnOk, refl, sym, subst, arith}
+use Rattle.t_base.specs.declared.basics.Memory.{Memory}
 use Rattle.t_base.specs.declared.shared_parts.Shared.{Shared}
 use Rattle.t_forms.specs.declared.arena.Cell.{Cell}
 use Rattle.t_forms.specs.Data.{Datum, Binder}
@@ -13,6 +13,11 @@ use Rattle.t_rows.specs.declared.definitions.Binder.{Binder as CodeBinder}
 use Rattle.t_rows.specs.Definitions.{IsDefinitionOf, IsDefault, AreBinders}
 use Rattle.t_rows.specs.Rows.{Definition, define, lset, operation_form, twice}
 use Rattle.t_expand.specs.Meaning.{Nodes, RootMeans, ValueMeans, top_scope}
+use Rattle.t_expand.specs.Growth.{IsGrown}
+use Rattle.t_expand.specs.Rooted.{nodes_of}
+use Rattle.t_expand.specs.declared.driver_state.Expansion.{Expansion}
+use Rattle.t_expand.specs.declared.unit_top.Rooted.{Rooted}
+use Rattle.t_expand.proofs.FirstLemmas.{none_of}
 use Rattle.t_expand.specs.Refusals.{Refused, RefusedDefinition, IsFirstOf}
 
 -- the definition is of the form at a place
@@ -94,3 +99,11 @@ operation_none names cells c n ps i (operation_form b bs e) of is s =
 pub nothing_contained : (xs : List Refusal) → ((r : Refusal) → Contains xs r → ⊥) → xs ≡ []
 nothing_contained [] h = refl
 nothing_contained (x ∷ xs) h = absurd (h x (0, omega arith, refl))
+
+pub none_means : (old new : Expansion) (names : List (List ℕ)) (ps : List CodeBinder) (d : Definition) (v : HasNone names ps d) (defined : List Bound)
+    (r : Result Rooted Memory) → OnOk r (IsFirstOf (λ x. (old.first ≡ Some x) ⊎ Contains (twice v.params) x) new.first)
+    → IfOk r (λ x. x.nodes.items ≡ []) → IfOk r (λ x. x.root ≡ 0)
+    → IfOk r (λ x. new.first ≡ None → (later : Shared) → IsGrown new.shared later → ValueMeans defined later (nodes_of x) d x.root)
+none_means old new names ps d v defined (Err e) refused nodes root = tt
+none_means old new names ps d v defined (Ok x) refused nodes root = λ none later grown.
+    v.means defined later (nodes_of x) x.root (nothing_contained (twice v.params) (none_of (λ r. Contains (twice v.params) r) old.first new.first none refused)) nodes root

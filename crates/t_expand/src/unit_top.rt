@@ -76,8 +76,8 @@ fn is_lambda(nodes: &[Core], root: u32) -> bool {
 }
 
 /// A global becomes a procedure where its DEFINE has a LAMBDA as root.
-fn settle(globals: &mut [Global1], kind: FormKind, rooted: &Rooted)
-    ensures { map (λ g. g.name) globals.new ≡ map (λ g. g.name) globals.old }
+fn settle(globals: &mut Vec<Global1>, kind: FormKind, rooted: &Rooted)
+    ensures { map (λ g. g.name) globals.new.items ≡ map (λ g. g.name) globals.old.items }
 {
     if let FormKind::Define(place) = kind {
         let at = place as usize;
@@ -218,7 +218,7 @@ impl Expansion {
         self.look_for_twice(marks, defined_name(definition))?;
         let rooted = self.expand_value(definition)?;
         let kind = self.kind(definition)?;
-        settle(self.shared.globals.as_mut_slice(), kind, &rooted);
+        settle(&mut self.shared.globals, kind, &rooted);
         Ok(finished(kind, rooted))
     }
 

@@ -4,8 +4,8 @@ use Rattle.t_rows.specs.Rows.{twice}
 use Rattle.t_expand.specs.Meaning.{top_scope}
 use Rattle.t_expand.specs.Refusals.{Refused, RefusedDefinition}
 use Rattle.t_expand.specs.Rooted.{nodes_of}
-use Rattle.t_expand.proofs.FirstLemmas.{first_right, none_of}
-use Rattle.t_expand.proofs.ValueLemmas.{define_value, lset_value, operation_value, operation_none, nothing_contained}
+use Rattle.t_expand.proofs.FirstLemmas.{first_right}
+use Rattle.t_expand.proofs.ValueLemmas.{define_value, lset_value, operation_value, operation_none, none_means}
 use Rattle.t_expand.proofs.driver_state.Expansion.expand_value.Goals as goal
 
 pub returns-in-Define-clause-refused : goal.returns-in-Define-clause-refused
@@ -57,4 +57,5 @@ returns-in-None-clause-refused c d defined ready of =
 pub returns-in-None-clause-meant : goal.returns-in-None-clause-meant
 returns-in-None-clause-meant c d defined ready of =
     let v = operation_none c.args.self.now.shared.names c.args.self.now.forms c.args.definition.now c.in-Operation.name c.in-Operation.params c.in-Operation.default d of c.in-Operation.is c.in-None.is in
-    ?
+    none_means c.args.self.now c.without_default.new.self c.args.self.now.shared.names c.in-Operation.params.items d v defined c.without_default.result
+    (c.without_default.ensures.refused v.params defined ready (rw c.as_slice.ensures.value v.are)) c.without_default.ensures.nodes c.without_default.ensures.root
