@@ -112,6 +112,7 @@ first_one a b x h = first_same (λ r. (a ≡ Some r) ⊎ Contains (x ∷ []) r) 
     there : (r : Refusal) → (a ≡ Some r) ⊎ Contains (x ∷ []) r → (a ≡ Some r) ⊎ (r ≡ x)
     there r (inl e) = inl e
     there r (inr i) = inr (contains_one x r i)
+
     back : (r : Refusal) → (a ≡ Some r) ⊎ (r ≡ x) → (a ≡ Some r) ⊎ Contains (x ∷ []) r
     back r (inl e) = inl e
     back r (inr e) = inr (subst (λ y. Contains (x ∷ []) y) (sym e) (Contains-push [] x))
@@ -127,6 +128,7 @@ first_right P Q a b there back h = first_same (λ r. (a ≡ Some r) ⊎ P r) (λ
     to : (r : Refusal) → (a ≡ Some r) ⊎ P r → (a ≡ Some r) ⊎ Q r
     to r (inl e) = inl e
     to r (inr p) = inr (there r p)
+
     from : (r : Refusal) → (a ≡ Some r) ⊎ Q r → (a ≡ Some r) ⊎ P r
     from r (inl e) = inl e
     from r (inr q) = inr (back r q)

@@ -7,6 +7,7 @@ pub mod MarkLemmas
 pub mod PlaceLemmas
 pub mod QuotedLemmas
 pub mod RefusalLemmas
+pub mod SoFarLemmas
 pub mod SpellingLemmas
 pub mod TopLemmas
 pub mod ValueLemmas

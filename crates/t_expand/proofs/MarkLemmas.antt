@@ -40,8 +40,8 @@ pub marked : (names : List (List ℕ)) (defined : List Name) (n : Name) (k : Loc
 marked names defined (made v) k p marks was apart is e m h = cc
 marked names defined (written t) k p marks was apart is e m h = record {
   says = λ j text at.
-    let here : slice_get names p.0 ≡ Some t = let s : is.0 ≡ p = cc in subst (λ (x : NamePlace). slice_get names x.0 ≡ Some t) s is.2 in
-    let same : (j == p.0) ≡ bytes_eq text t = same_place names j p.0 text t apart at here in
-    says_at marks p.0 j was (list_any (is_same_name (written text)) defined) (list_any (is_same_name (written text)) (defined ++ written t ∷ []))
-    (bytes_eq text t) h (m.says j text at) same (or_last (is_same_name (written text)) defined (written t));
+      let here : slice_get names p.0 ≡ Some t = let s : is.0 ≡ p = cc in subst (λ (x : NamePlace). slice_get names x.0 ≡ Some t) s is.2 in
+      let same : (j == p.0) ≡ bytes_eq text t = same_place names j p.0 text t apart at here in
+      says_at marks p.0 j was (list_any (is_same_name (written text)) defined) (list_any (is_same_name (written text)) (defined ++ written t ∷ []))
+      (bytes_eq text t) h (m.says j text at) same (or_last (is_same_name (written text)) defined (written t));
 }

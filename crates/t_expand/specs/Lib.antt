@@ -7,5 +7,6 @@ pub mod Outcome
 pub mod Quoting
 pub mod Refusals
 pub mod Rooted
+pub mod SoFar
 pub mod Tops
 pub mod Units

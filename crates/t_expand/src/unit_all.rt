@@ -11,7 +11,7 @@ ghost use Rattle.t_expand.specs.Refusals.{RefusedAmong, IsFirstOf};
 use crate::driver_state::Expansion;
 use crate::spans::Spans;
 use crate::tops::Top;
-use crate::unit_marks::no_marks;
+use crate::unit_marks::NameMarks;
 use crate::unit_top::Expanded;
 use t_base::Memory;
 use t_core::Form;
@@ -45,13 +45,13 @@ impl Expansion {
         ensures meant { (ts : List SpecTop) (defined : List Bound) → IsReady self.old defined → AreTops self.old.shared.names self.old.forms tops.now ts → self.old.first ≡ None → IfOk result (λ x. self.new.first ≡ None → (later : SharedParts) → IsGrown self.new.shared later → FormsMean defined later x.forms.items x.spans.items ts) }
     {
         let alloc = self.alloc;
-        let mut marks = no_marks(alloc, self.shared.names.count() as usize)?;
+        let mut marks = NameMarks::new(alloc, self.shared.names.count() as usize)?;
         let mut list = FormList {
             forms: Vec::new(alloc),
             spans: Vec::new(alloc),
         };
         'tops: for top in tops {
-            let expanded = self.expand_top(marks.as_mut_slice(), top)?;
+            let expanded = self.expand_top(&mut marks, top)?;
             list.add(expanded)?;
         }
         Ok(list)

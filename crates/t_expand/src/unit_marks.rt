@@ -6,37 +6,54 @@ ghost use Rattle.t_forms.specs.Held.{IsName};
 ghost use Rattle.t_expand.specs.Marks.{Marks};
 
 use std::alloc::Global;
+use std::marker::Model;
 use t_base::{Memory, Name};
 use t_forms::LocalName;
 
-/// No marks, at so many places.
-pub fn no_marks(alloc: Global, count: usize) -> Result<Vec<bool>, Memory>
-    ensures { IfOk result (λ marks. marks.items ≡ replicate count false) }
-{
-    let marks = vec![in alloc; false; count]?;
-    Ok(marks)
+/// Marks on names, by their places. Contracts see the list of the marks.
+#[derive(Drop)]
+pub struct NameMarks {
+    places: Vec<bool>,
 }
 
-fn mark_at(marks: &[bool], name: Name) -> Option<bool>
-    ensures { result ≡ slice_get marks.now name.0 }
-{
-    marks.get(name.0 as usize).copied()
+impl Model for NameMarks {
+    ghost use Rattle.std.specs.Prelude.{List, Bool};
+
+    ghost Value = { List Bool };
+
+    ghost view = { λ m. m.places.items };
 }
 
-/// Marks a name and says whether it was marked. A new variable is never defined at top level, which is answered as want of memory.
-pub fn mark(marks: &mut [bool], name: LocalName) -> Result<bool, Memory>
-    ensures before { (names : List (List ℕ)) (defined : List SpecName) (n : SpecName) → IsName names name n → Marks names marks.old defined → IfOk result (λ b. b ≡ list_any (is_same_name n) defined) }
-    ensures marked { (names : List (List ℕ)) (defined : List SpecName) (n : SpecName) → AllPairs (λ a b. a ≢ b) names → IsName names name n → Marks names marks.old defined → OnOk result (Marks names marks.new (defined ++ n ∷ [])) }
-{
-    let name = match name {
-        LocalName::Written(name) => name,
-        LocalName::Made(_) => return Err(Memory),
-    };
-    match mark_at(marks, name) {
-        None => Err(Memory),
-        Some(was) => {
-            marks[name.0 as usize] = true;
-            Ok(was)
+impl NameMarks {
+    /// No marks, at so many places. The only error is the want of memory.
+    pub fn new(alloc: Global, count: usize) -> Result<NameMarks, Memory>
+        ensures { IfOk result (λ marks. marks ≡ replicate count false) }
+    {
+        let places = vec![in alloc; false; count]?;
+        Ok(NameMarks { places })
+    }
+
+    fn at(&self, name: Name) -> Option<bool>
+        ensures { result ≡ slice_get self.now name.0 }
+    {
+        self.places.get(name.0 as usize).copied()
+    }
+
+    /// Marks a name and says whether it was marked. A new variable is never defined at top level, which is answered as want of memory.
+    pub fn mark(&mut self, name: LocalName) -> Result<bool, Memory>
+        ensures before { (names : List (List ℕ)) (defined : List SpecName) (n : SpecName) → IsName names name n → Marks names self.old defined → IfOk result (λ b. b ≡ list_any (is_same_name n) defined) }
+        ensures marked { (names : List (List ℕ)) (defined : List SpecName) (n : SpecName) → AllPairs (λ a b. a ≢ b) names → IsName names name n → Marks names self.old defined → OnOk result (Marks names self.new (defined ++ n ∷ [])) }
+    {
+        let name = match name {
+            LocalName::Written(name) => name,
+            LocalName::Made(_) => return Err(Memory),
+        };
+        match self.at(name) {
+            None => Err(Memory),
+            Some(was) => {
+                self.places[name.0 as usize] = true;
+                Ok(was)
+            }
         }
     }
 }

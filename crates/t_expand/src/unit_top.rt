@@ -21,7 +21,7 @@ use crate::driver_state::{Expansion, NodeList};
 use crate::entries::defined_name;
 use crate::spans::Spans;
 use crate::tops::Top;
-use crate::unit_marks::mark;
+use crate::unit_marks::NameMarks;
 use std::mem;
 use t_base::{Global1, GlobalKind, Memory, Span};
 use t_core::{Core, Form, FormKind};
@@ -190,12 +190,12 @@ impl Expansion {
     }
 
     /// Looks whether a name was defined before.
-    fn look_for_twice(&mut self, marks: &mut [bool], name: Binder) -> Result<(), Memory>
+    fn look_for_twice(&mut self, marks: &mut NameMarks, name: Binder) -> Result<(), Memory>
         ensures kept { OnOk result (Keeps self.old self.new) }
         ensures refused { (before : List SpecTop) (defined : List Bound) (b : SpecBinder) → IsReady self.old defined → IsBinder self.old.shared.names name b → Marks self.old.shared.names marks.old (names_defined before) → OnOk result (IsFirstOf (λ r. (self.old.first ≡ Some r) ⊎ Contains (twice_defined before b) r) self.new.first) }
         ensures marked { (before : List SpecTop) (defined : List Bound) (b : SpecBinder) → IsReady self.old defined → IsBinder self.old.shared.names name b → Marks self.old.shared.names marks.old (names_defined before) → OnOk result (Marks self.old.shared.names marks.new (names_defined before ++ b.name ∷ [])) }
     {
-        if mark(marks, name.name)? {
+        if marks.mark(name.name)? {
             let refusal = Refusal {
                 kind: SyntaxKind::Twice,
                 span: name.at,
@@ -207,7 +207,7 @@ impl Expansion {
 
     fn expand_defining(
         &mut self,
-        marks: &mut [bool],
+        marks: &mut NameMarks,
         definition: &Definition,
     ) -> Result<Expanded, Memory>
         ensures kept { (d : SpecDefinition) (defined : List Bound) → IsReady self.old defined → IsDefinitionOf self.old.shared.names self.old.forms definition.now d → OnOk result (Keeps self.old self.new) }
@@ -236,7 +236,7 @@ impl Expansion {
 
     /// The form of the core that a form at top level stands for, where nothing was refused so far. Else what is refused is noted. The
     /// only error is the want of memory.
-    pub fn expand_top(&mut self, marks: &mut [bool], top: &Top) -> Result<Expanded, Memory>
+    pub fn expand_top(&mut self, marks: &mut NameMarks, top: &Top) -> Result<Expanded, Memory>
         ensures kept { (t : SpecTop) (defined : List Bound) → IsReady self.old defined → IsTop self.old.shared.names self.old.forms top.now t → OnOk result (Keeps self.old self.new) }
         ensures refused { (before : List SpecTop) (t : SpecTop) (defined : List Bound) → IsReady self.old defined → IsTop self.old.shared.names self.old.forms top.now t → Marks self.old.shared.names marks.old (names_defined before) → OnOk result (IsFirstOf (λ r. (self.old.first ≡ Some r) ⊎ RefusedTop defined before t r) self.new.first) }
         ensures marked { (before : List SpecTop) (t : SpecTop) (defined : List Bound) → IsReady self.old defined → IsTop self.old.shared.names self.old.forms top.now t → Marks self.old.shared.names marks.old (names_defined before) → OnOk result (Marks self.old.shared.names marks.new (names_defined (before ++ t ∷ []))) }
