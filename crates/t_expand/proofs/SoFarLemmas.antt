@@ -83,6 +83,7 @@ among_split defined done t r h = by (cases_order h.at (length done))
   where
     within : h.at < length (done ++ t ∷ [])
     within = slice_get_within (done ++ t ∷ []) h.at h.top h.there
+
     by : (h.at ≡ length done) ⊎ ((h.at < length done) ⊎ (length done < h.at)) → RefusedAmong defined done r ⊎ RefusedTop defined done t r
     by (inl e) =
         let at_seam : slice_get (done ++ t ∷ []) (length done) ≡ Some h.top = rw (sym e) h.there in
@@ -117,10 +118,10 @@ forms_more defined shared (g ∷ forms) (x ∷ spans) (u ∷ ts) f s t h i = (h.
 no_marks : (names : List (List ℕ)) (count : ℕ) (marks : List Bool) → count ≡ length names → marks ≡ replicate count false → Marks names marks []
 no_marks names count marks e m = record {
   says = λ k text at.
-    let below : k < length names = slice_get_within names k text at in
-    let less : k < count = omega arith in
-    let there : k < length (replicate count false) = rw (length-replicate count false) less in
-    rw m (slice_get-get_or (replicate count false) k false there ∙ ap Some (get_or-replicate count k false false less));
+      let below : k < length names = slice_get_within names k text at in
+      let less : k < count = omega arith in
+      let there : k < length (replicate count false) = rw (length-replicate count false) less in
+      rw m (slice_get-get_or (replicate count false) k false there ∙ ap Some (get_or-replicate count k false false less));
 }
 
 none_among : (defined : List Bound) (r : Refusal) → RefusedAmong defined [] r → ⊥
@@ -145,10 +146,10 @@ so_far_more start a b marks more list larger done t defined x s keeps refused ma
   keeps = keeps_trans start a b s.keeps keeps;
   marked = subst (λ names. Marks names more (names_defined (done ++ t ∷ []))) s.keeps.shared.names marked;
   first = λ none.
-    first_same (λ r. RefusedAmong defined done r ⊎ RefusedTop defined done t r) (RefusedAmong defined (done ++ t ∷ [])) b.first (among_more defined done t)
-    (among_split defined done t) (first_among (RefusedAmong defined done) (RefusedTop defined done t) a.first b.first (s.first none) refused);
+      first_same (λ r. RefusedAmong defined done r ⊎ RefusedTop defined done t r) (RefusedAmong defined (done ++ t ∷ [])) b.first (among_more defined done t)
+      (among_split defined done t) (first_among (RefusedAmong defined done) (RefusedTop defined done t) a.first b.first (s.first none) refused);
   meant = λ none later grown.
-    rw (f, g) (forms_more defined later list.forms.items list.spans.items done x.form x.spans t
-    (s.meant (was_none (RefusedTop defined done t) a.first b.first none refused) later (grown_trans a.shared b.shared later keeps.shared grown))
-    (meant none later grown));
+      rw (f, g) (forms_more defined later list.forms.items list.spans.items done x.form x.spans t
+      (s.meant (was_none (RefusedTop defined done t) a.first b.first none refused) later (grown_trans a.shared b.shared later keeps.shared grown))
+      (meant none later grown));
 }

@@ -1,14 +1,14 @@
 -- A form at top level and what it becomes.
-use Rattle.std.proofs.Common.{◌≡◌, ℕ, List, [], ◌∷◌, ◌++◌, length, map, Option, Some, None, refl, sym, ap, subst, ◌∙◌}
+use Rattle.std.proofs.Common.{◌≡◌, ℕ, suc, zero, ◌+◌, ◌<◌, List, [], ◌∷◌, ◌++◌, length, take, get_or, map, arith, Option, Some, None, refl, sym, ap, subst, ◌∙◌}
 use Rattle.std.proofs.lemmas.Grind.{flat_map-append}
-use Rattle.std.proofs.lemmas.List.{append-nil}
+use Rattle.std.proofs.lemmas.List.{append-nil, map-append}
 use Rattle.t_base.specs.declared.basics.Span.{Span}
 use Rattle.t_base.specs.declared.shared_parts.Shared.{Shared}
 use Rattle.t_core.specs.declared.forms.FormKind.{FormKind}
 use Rattle.t_forms.specs.declared.arena.Cell.{Cell}
 use Rattle.t_forms.specs.Data.{Datum, Binder, Name}
 use Rattle.t_forms.specs.Names.{Bound}
-use Rattle.t_forms.specs.Held.{Held, Extends}
+use Rattle.t_forms.specs.Held.{Held, AllHeld, Extends}
 use Rattle.t_forms.proofs.Keeping.{held_grows}
 use Rattle.t_rows.specs.declared.definitions.Definition.{Definition as CodeDefinition}
 use Rattle.t_rows.specs.Definitions.{IsDefinitionOf, IsDefault}
@@ -17,7 +17,7 @@ use Rattle.t_expand.specs.Growth.{Keeps}
 use Rattle.t_expand.specs.Meaning.{TopMeans, FormMeans}
 use Rattle.t_expand.specs.Rooted.{nodes_of}
 use Rattle.t_expand.specs.Tops.{IsTop, AreTops}
-use Rattle.t_expand.specs.Units.{Top, defining, broken, expression, names_of, names_defined, defined_name}
+use Rattle.t_expand.specs.Units.{Top, defining, broken, expression, names_of, names_defined, defined_name, top_of}
 use Rattle.t_expand.specs.declared.driver_state.Expansion.{Expansion}
 use Rattle.t_expand.specs.declared.tops.Top.{Top as CodeTop}
 use Rattle.t_expand.specs.declared.tops.Top.TheVariants as code
@@ -117,3 +117,45 @@ is_expression_top names cells c k t e is = by t (subst (λ y. IsTop names cells 
     by (defining d) h = absurd h
     by (broken s) h = absurd h
     by (expression d) h = record { form = d; is = refl; held = h }
+
+-- ---- forms one after another
+
+-- the datum at a place
+pub record HeldAt (names : List (List ℕ)) (cells : List Cell) (k : ℕ) (ds : List Datum) (i : ℕ) : Type 0 where
+  pub form : Datum
+  pub next : take (i + 1) ds ≡ take i ds ++ form ∷ []
+  pub held : Held names cells k form
+
+pub held_at : (names : List (List ℕ)) (cells : List Cell) (ks : List ℕ) (ds : List Datum) (i : ℕ) → AllHeld names cells ks ds → i < length ks
+    → HeldAt names cells (get_or ks i 0) ds i
+held_at names cells [] ds i h below = absurd (omega (arith, below))
+held_at names cells (k ∷ ks) [] i h below = absurd h
+held_at names cells (k ∷ ks) (d ∷ ds) zero h below = record { form = d; next = refl; held = h.0 }
+held_at names cells (k ∷ ks) (d ∷ ds) (suc i) h below =
+    let less : i < length ks = omega (arith, below) in
+    let r = held_at names cells ks ds i h.1 less in
+    let more : suc i + 1 ≡ suc (i + 1) = omega arith in
+    record { form = r.form; next = rw more (ap (λ l. d ∷ l) r.next); held = r.held }
+
+pub as_many_held : (names : List (List ℕ)) (cells : List Cell) (ks : List ℕ) (ds : List Datum) → AllHeld names cells ks ds → length ks ≡ length ds
+as_many_held names cells [] [] h = refl
+as_many_held names cells [] (d ∷ ds) h = absurd h
+as_many_held names cells (k ∷ ks) [] h = absurd h
+as_many_held names cells (k ∷ ks) (d ∷ ds) h = ap suc (as_many_held names cells ks ds h.1)
+
+pub tops_more : (names : List (List ℕ)) (cells : List Cell) (cs : List CodeTop) (ts : List Top) (c : CodeTop) (t : Top) → AreTops names cells cs ts
+    → IsTop names cells c t → AreTops names cells (cs ++ c ∷ []) (ts ++ t ∷ [])
+tops_more names cells [] [] c t h is = (is, tt)
+tops_more names cells [] (u ∷ ts) c t h is = absurd h
+tops_more names cells (x ∷ cs) [] c t h is = absurd h
+tops_more names cells (x ∷ cs) (u ∷ ts) c t h is = (h.0, tops_more names cells cs ts c t h.1 is)
+
+-- one more form
+pub next_top : (names : List (List ℕ)) (first a b : List Cell) (ks : List ℕ) (ds : List Datum) (i : ℕ) (cs : List CodeTop) (c : CodeTop) → Extends first a → Extends a b
+    → AllHeld names first ks ds → i < length ks → AreTops names a cs (map top_of (take i ds))
+    → ((d : Datum) → Held names a (get_or ks i 0) d → IsTop names b c (top_of d)) → AreTops names b (cs ++ c ∷ []) (map top_of (take (i + 1) ds))
+next_top names first a b ks ds i cs c g h all below are top =
+    let at = held_at names first ks ds i all below in
+    rw (at.next, map-append top_of (take i ds) (at.form ∷ []))
+    (tops_more names b cs (map top_of (take i ds)) c (top_of at.form) (tops_grow names a b h cs (map top_of (take i ds)) are)
+    (top at.form (held_grows g names (get_or ks i 0) at.form at.held)))

@@ -1,5 +1,5 @@
 // The forms at top level.
-ghost use Rattle.std.specs.Prelude.{◌≡◌, List, ℕ, IfOk, drop};
+ghost use Rattle.std.specs.Prelude.{◌≡◌, List, ℕ, map, IfOk};
 ghost use Rattle.t_forms.specs.Data.{Datum, items_of};
 ghost use Rattle.t_forms.specs.Held.{Held, AllHeld, Extends};
 ghost use Rattle.t_expand.specs.Units.{is_defining, defines, is_herald_items, without_herald, top_of, tops_of};
@@ -75,14 +75,32 @@ fn is_herald(forms: &Forms, names: &Names, key: u32) -> bool
     }
 }
 
-/// How many forms stand in front of those of the unit: a herald.
-fn heralds(forms: &Forms, names: &Names, keys: &[u32]) -> usize
-    ensures { (ds : List Datum) → AllHeld names.now forms.now keys.now ds → AllHeld names.now forms.now (drop result keys.now) (without_herald ds) }
+/// The forms behind a herald in front, if there is one.
+fn without_herald<'a>(forms: &Forms, names: &Names, keys: &'a [u32]) -> &'a [u32]
+    ensures { (ds : List Datum) → AllHeld names.now forms.now keys.now ds → AllHeld names.now forms.now result.now (without_herald ds) }
 {
-    match keys.first() {
-        Some(key) => { if is_herald(forms, names, *key) { 1 } else { 0 } }
-        None => 0,
+    match keys {
+        [] => keys,
+        [first, rest @ ..] => {
+            if is_herald(forms, names, *first) {
+                rest
+            } else {
+                keys
+            }
+        }
     }
+}
+
+fn all_tops(forms: &mut Forms, keys: &[u32]) -> Result<Vec<Top>, Memory>
+    ensures grown { Extends forms.old forms.new }
+    ensures tops { (names : List (List ℕ)) (ds : List Datum) → AllHeld names forms.old keys.now ds → IfOk result (λ tops. AreTops names forms.new tops.items (map top_of ds)) }
+{
+    let mut tops = Vec::new(forms.alloc());
+    'keys: for key in keys {
+        let top = top_of(forms, *key)?;
+        tops.push(top)?;
+    }
+    Ok(tops)
 }
 
 /// The forms at top level of these data, without a herald in front. Cells are only added. The only error is the want of memory.
@@ -90,11 +108,6 @@ pub fn tops_of(forms: &mut Forms, names: &Names, keys: &[u32]) -> Result<Vec<Top
     ensures grown { Extends forms.old forms.new }
     ensures tops { (ds : List Datum) → AllHeld names.now forms.old keys.now ds → IfOk result (λ tops. AreTops names.now forms.new tops.items (tops_of ds)) }
 {
-    let mut tops = Vec::new(forms.alloc());
-    let first = heralds(forms, names, keys);
-    'forms: for at in first..keys.len() {
-        let top = top_of(forms, keys[at])?;
-        tops.push(top)?;
-    }
-    Ok(tops)
+    let keys = without_herald(forms, names, keys);
+    all_tops(forms, keys)
 }
