@@ -1,3 +1,4 @@
+pub mod EntryLemmas
 pub mod FirstLemmas
 pub mod FirstRefusals
 pub mod GrowingLemmas

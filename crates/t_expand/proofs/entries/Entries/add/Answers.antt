@@ -1,19 +1,18 @@
-use Rattle.std.proofs.Common.{rules, ◌≡◌, ◌≢◌, ◌++◌, ◌∷◌, [], Some, None, List, ℕ, AllPairs, replicate, slice_get, take, IfOk, OnOk, ◌+◌, ◌-◌, ◌*◌, ◌<◌, ◌≤◌, length, ◌/◌, ◌%◌, Bool, true, false, nat_eq, nat_lt, slice_index_or, slice_set, bit_and, bit_or, Fits, w8, w32, w64, Bor, MutBor}
-use Rattle.t_reader.specs.Unit.{fixed_names}
-use Rattle.t_objects.specs.Operations.{builtin_entries}
-use Rattle.t_forms.specs.declared.arena.Cell.{Cell}
-use Rattle.t_rows.specs.Rows.{Definition as SpecDefinition}
-use Rattle.t_rows.specs.Definitions.{IsDefinitionOf, IsBinder}
-use Rattle.t_expand.specs.Units.{Top as SpecTop}
-use Rattle.t_expand.specs.Units.{Entry, defined_name, with_top, with_definition, entries_of}
-use Rattle.t_expand.specs.Tops.{IsTop, AreTops}
-use Rattle.t_expand.specs.Entries.{AreEntries, IsGlobalAdded, IsOpAdded, IsPut}
+use Rattle.std.proofs.Common.{◌≡◌, Some, None, slice_get, refl, sym, ◌∙◌}
+use Rattle.std.proofs.lemmas.Result.{on_ok_weaker}
+use Rattle.t_expand.specs.Entries.{AreEntries}
+use Rattle.t_expand.specs.Units.{with_definition, defined_name as name_of}
+use Rattle.t_expand.proofs.EntryLemmas.{written_name, entry_known, entry_added}
 use Rattle.t_expand.proofs.entries.Entries.add.Goals as goal
 
--- src/entries.rt:133:5
 pub returns-in-Some-Some : goal.returns-in-Some-Some
-returns-in-Some-Some c = ?
+returns-in-Some-Some c names cells d entries apart of are =
+    let w = written_name names c.defined_name.result.name (name_of d).name c.in-Written.name (c.defined_name.ensures names cells d of).1 c.in-Written.is in
+    let at : slice_get c.args.self.now.table.items c.in-Written.name.0 ≡ Some (Some c.in-Some-Some.field-0-0) = rw (sym c.as_slice.ensures.value) (sym c.in-Some-Some.ensures ∙ (rw c.in-Some-Some.field-0-is refl)) in
+    rw (entry_known names c.args.self.now entries d c.in-Written.name c.in-Some-Some.field-0-0 are w at) are
 
--- src/entries.rt:133:5
 pub returns-in-Some-None : goal.returns-in-Some-None
-returns-in-Some-None c = ?
+returns-in-Some-None c names cells d entries apart of are =
+    let w = written_name names c.defined_name.result.name (name_of d).name c.in-Written.name (c.defined_name.ensures names cells d of).1 c.in-Written.is in
+    let at : slice_get c.args.self.now.table.items c.in-Written.name.0 ≡ Some None = rw (sym c.as_slice.ensures.value) (sym c.in-Some-None.ensures ∙ (rw c.in-Some-None.field-0-is refl)) in
+    on_ok_weaker c.put.result (λ put. entry_added names cells c.args.self.now c.put.new.self entries c.args.definition.now d c.in-Written.name apart are w at of put) c.put.ensures
