@@ -1,1 +1,2 @@
 pub mod FirstRefusals
+pub mod NodeLemmas

@@ -1,3 +1,4 @@
+pub mod Building
 pub mod Meaning
 pub mod Refusals
 pub mod Units

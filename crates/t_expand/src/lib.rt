@@ -2,10 +2,12 @@
 //! refusal (`specs/Refusals.antt`). The types of its answers.
 #![tactic(auto)]
 
+mod build;
 mod fault;
 pub mod laws;
 mod spans;
 
+pub use crate::build::{node, Done, Fresh};
 pub use crate::fault::SyntaxFault;
 pub use crate::spans::Spans;
 pub use t_rows::SyntaxKind;
