@@ -1,2 +1,4 @@
 pub mod FirstRefusals
 pub mod NodeLemmas
+pub mod QuotedLemmas
+pub mod SpellingLemmas

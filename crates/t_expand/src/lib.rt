@@ -5,9 +5,11 @@
 mod build;
 mod fault;
 pub mod laws;
+mod quoted;
 mod spans;
 
 pub use crate::build::{node, Done, Fresh};
 pub use crate::fault::SyntaxFault;
+pub use crate::quoted::constant_of;
 pub use crate::spans::Spans;
 pub use t_rows::SyntaxKind;
