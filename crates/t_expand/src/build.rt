@@ -67,7 +67,10 @@ fn lambda(alloc: Global, tail: bool, done: &[Done]) -> Result<Core, Memory>
     match done {
         [body] if body.tail => {
             let params = variables(alloc, body.vars)?;
-            Ok(Core::Lambda { params, body: body.at })
+            Ok(Core::Lambda {
+                params,
+                body: body.at,
+            })
         }
         _ => Err(Memory),
     }
@@ -77,9 +80,14 @@ fn if_node(tail: bool, done: &[Done]) -> Result<Core, Memory>
     ensures { IfOk result (IsBuilt shapes.If tail done.now) }
 {
     match done {
-        [test, yes, no] if is_plain(*test, false) && is_plain(*yes, tail) && is_plain(*no, tail) => {
-            Ok(Core::If { test: test.at, yes: yes.at, no: no.at })
-        }
+        [test, yes, no] if is_plain(*test, false) && is_plain(*yes, tail) && is_plain(*no, tail) =>
+            {
+                Ok(Core::If {
+                    test: test.at,
+                    yes: yes.at,
+                    no: no.at,
+                })
+            }
         _ => Err(Memory),
     }
 }
@@ -115,7 +123,11 @@ fn let_node(alloc: Global, tail: bool, done: &[Done]) -> Result<Core, Memory>
         [values @ .., body] if body.tail == tail => {
             let values = Keys::from_vec(places(alloc, NO_VARS, values)?);
             let vars = variables(alloc, body.vars)?;
-            Ok(Core::Let { vars, values, body: body.at })
+            Ok(Core::Let {
+                vars,
+                values,
+                body: body.at,
+            })
         }
         _ => Err(Memory),
     }
@@ -128,7 +140,11 @@ fn labels(alloc: Global, tail: bool, done: &[Done]) -> Result<Core, Memory>
         [lambdas @ .., body] if body.tail == tail => {
             let lambdas = Keys::from_vec(places(alloc, body.vars, lambdas)?);
             let vars = variables(alloc, body.vars)?;
-            Ok(Core::Labels { vars, lambdas, body: body.at })
+            Ok(Core::Labels {
+                vars,
+                lambdas,
+                body: body.at,
+            })
         }
         _ => Err(Memory),
     }
@@ -161,7 +177,10 @@ fn catch_node(tail: bool, done: &[Done]) -> Result<Core, Memory>
     ensures { IfOk result (IsBuilt shapes.Catch tail done.now) }
 {
     match done {
-        [body] if body.vars.count == 1 && !body.tail => Ok(Core::Catch { var: Var(body.vars.first), body: body.at }),
+        [body] if body.vars.count == 1 && !body.tail => Ok(Core::Catch {
+            var: Var(body.vars.first),
+            body: body.at,
+        }),
         _ => Err(Memory),
     }
 }
@@ -180,7 +199,11 @@ fn method_list(alloc: Global, ops: &[u32], done: &[Done]) -> Result<Methods, Mem
             return Err(Memory);
         }
         let params = variables(alloc, part.vars)?;
-        methods.push(Method { op: ops[index], params, body: part.at })?;
+        methods.push(Method {
+            op: ops[index],
+            params,
+            body: part.at,
+        })?;
     }
     Ok(Methods::from_vec(methods))
 }
@@ -191,7 +214,10 @@ fn object(alloc: Global, ops: &[u32], tail: bool, done: &[Done]) -> Result<Core,
     match done {
         [proc, rest @ ..] if is_plain(*proc, false) => {
             let methods = method_list(alloc, ops, rest)?;
-            Ok(Core::Object { proc: proc.at, methods })
+            Ok(Core::Object {
+                proc: proc.at,
+                methods,
+            })
         }
         _ => Err(Memory),
     }
@@ -203,14 +229,18 @@ fn call(alloc: Global, tail: bool, done: &[Done]) -> Result<Core, Memory>
     match done {
         [operator, rest @ ..] if is_plain(*operator, false) => {
             let operands = Keys::from_vec(places(alloc, NO_VARS, rest)?);
-            Ok(Core::Call { operator: operator.at, operands, tail })
+            Ok(Core::Call {
+                operator: operator.at,
+                operands,
+                tail,
+            })
         }
         _ => Err(Memory),
     }
 }
 
 /// A node without parts.
-fn leaf(core: Core, done: &[Done]) -> Result<Core, Memory>
+pub fn leaf(core: Core, done: &[Done]) -> Result<Core, Memory>
     ensures same { IfOk result (λ c. c ≡ core) }
     ensures none { OnOk result (done.now ≡ []) }
 {

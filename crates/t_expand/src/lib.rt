@@ -3,13 +3,15 @@
 #![tactic(auto)]
 
 mod build;
+mod driver;
+mod driver_first;
+mod driver_state;
 mod fault;
 pub mod laws;
 mod quoted;
 mod spans;
 
-pub use crate::build::{node, Done, Fresh};
+pub use crate::driver_state::{Expansion, NodeList};
 pub use crate::fault::SyntaxFault;
-pub use crate::quoted::constant_of;
 pub use crate::spans::Spans;
 pub use t_rows::SyntaxKind;

@@ -117,7 +117,13 @@ fn atom(alloc: Global, form: &Form, shared: &mut Shared) -> Result<Const, Memory
 }
 
 /// The datum at a place: its head is next, or the constant is there.
-fn visit(alloc: Global, forms: &Forms, shared: &mut Shared, waiting: &mut Vec<Half>, at: u32) -> Result<Quoting, Memory>
+fn visit(
+    alloc: Global,
+    forms: &Forms,
+    shared: &mut Shared,
+    waiting: &mut Vec<Half>,
+    at: u32,
+) -> Result<Quoting, Memory>
     ensures adds { OnOk result (AddsConstants shared.old shared.new) }
     ensures quotes { (root : Datum) → Quotes shared.old forms.now waiting.old.items (quotings.Datum at) root → IfOk result (λ next. Quotes shared.new forms.now waiting.new.items next root) }
 {
@@ -137,7 +143,12 @@ fn visit(alloc: Global, forms: &Forms, shared: &mut Shared, waiting: &mut Vec<Ha
 }
 
 /// Goes on behind a constant that is half of a pair.
-fn deliver(shared: &mut Shared, waiting: &mut Vec<Half>, half: Half, constant: Const) -> Result<Quoting, Memory>
+fn deliver(
+    shared: &mut Shared,
+    waiting: &mut Vec<Half>,
+    half: Half,
+    constant: Const,
+) -> Result<Quoting, Memory>
     ensures adds { OnOk result (AddsConstants shared.old shared.new) }
     ensures quotes { (cells : List SpecCell) (root : Datum) → Quotes shared.old cells (waiting.old.items ++ half ∷ []) (quotings.Made constant) root → IfOk result (λ next. Quotes shared.new cells waiting.new.items next root) }
 {
@@ -154,7 +165,12 @@ fn deliver(shared: &mut Shared, waiting: &mut Vec<Half>, half: Half, constant: C
 }
 
 /// The constant that the datum at a place is. Strings and pairs are only added.
-pub fn constant_of(alloc: Global, forms: &Forms, shared: &mut Shared, key: u32) -> Result<Const, Memory>
+pub fn constant_of(
+    alloc: Global,
+    forms: &Forms,
+    shared: &mut Shared,
+    key: u32,
+) -> Result<Const, Memory>
     ensures adds { OnOk result (AddsConstants shared.old shared.new) }
     ensures constant { (d : Datum) → Held shared.old.names forms.now key d → IfOk result (IsQuoted shared.new d) }
 {

@@ -1,4 +1,4 @@
-use Rattle.std.proofs.Common.{sym, subst, ◌∙◌, ap, refl, ◌++◌, ◌∷◌, []}
+use Rattle.std.proofs.Common.{sym, subst, refl, ◌++◌, ◌∷◌, []}
 use Rattle.t_expand.specs.Quoting.{Quotes}
 use Rattle.t_expand.specs.declared.quoted.Quoting.TheVariants as quoting
 use Rattle.t_expand.proofs.QuotedLemmas.{second_half, pair_made, Adds_refl}
@@ -8,7 +8,7 @@ pub returns-in_ok-push-in-Tail-clause-quotes : goal.returns-in_ok-push-in-Tail-c
 returns-in_ok-push-in-Tail-clause-quotes c cells root q =
     subst (λ halves. Quotes c.args.shared.now cells halves (quoting.Datum c.in-Tail.next) root) (sym c.in_ok-push-in-Tail.ensures.items)
     (second_half c.args.shared.now cells c.args.waiting.now.items c.in-Tail.next c.args.constant root
-      (subst (λ h. Quotes c.args.shared.now cells (c.args.waiting.now.items ++ h ∷ []) (quoting.Made c.args.constant) root) c.in-Tail.is q))
+    (subst (λ h. Quotes c.args.shared.now cells (c.args.waiting.now.items ++ h ∷ []) (quoting.Made c.args.constant) root) c.in-Tail.is q))
 
 pub returns-in_ok-made-in-Head-clause-quotes : goal.returns-in_ok-made-in-Head-clause-quotes
 returns-in_ok-made-in-Head-clause-quotes c cells root q =
