@@ -15,7 +15,7 @@ use Rattle.t_forms.specs.declared.arena.Form.TheVariants as form
 use Rattle.t_forms.specs.Data.{Atom, given, variable, builtin, operation, listing, Datum, atom, cons, count_of}
 use Rattle.t_forms.specs.Held.{cell, Held, Continues, IsAtom, IsSymbol}
 use Rattle.t_expand.specs.Meaning.{IsQuoted}
-use Rattle.t_expand.specs.Quoting.{Adds, AddsConstants, IsNext, IsHalf, StandsIn, as_root, in_pair, Quotes, spelling, IsConstant}
+use Rattle.t_expand.specs.Quoting.{Adds, AddsConstants, IsHalf, StandsIn, as_root, in_pair, Quotes, IsConstant}
 use Rattle.t_expand.specs.declared.quoted.Half.{Half}
 use Rattle.t_expand.specs.declared.quoted.Half.TheVariants as half
 use Rattle.t_expand.specs.declared.quoted.Quoting.TheVariants as quoting

@@ -64,3 +64,8 @@ none_in x c = let h = c.1 in omega arith
 
 pub first_of_none : (before : Option Refusal) → IsFirst before [] before
 first_of_none before = record { known = λ r e. inl e; least = λ r c. absurd (none_in r c); kept = λ r e. covered_self before r e }
+
+-- without a first refusal there was none before
+pub none_before : (before after : Option Refusal) → ((r : Refusal) → before ≡ Some r → IsCovered after r) → after ≡ None → before ≡ None
+none_before None after kept e = refl
+none_before (Some r) after kept e = absurd (none_covers r (subst (λ o. IsCovered o r) e (kept r refl)))

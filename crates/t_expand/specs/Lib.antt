@@ -1,3 +1,5 @@
+pub mod Building
+pub mod Driving
 pub mod Entries
 pub mod Expanding
 pub mod Growth

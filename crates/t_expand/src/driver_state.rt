@@ -37,6 +37,7 @@ impl NodeList {
     /// Puts a node last and gives its place. The only error is the want of memory, also for a node past 2^32 - 1.
     pub fn add(&mut self, node: Core, span: Span) -> Result<u32, Memory>
         ensures place { IfOk result (λ key. key ≡ length self.old.nodes) }
+        ensures span_place { IfOk result (λ key. key ≡ length self.old.spans) }
         ensures nodes { OnOk result (self.new.nodes ≡ self.old.nodes ++ node ∷ []) }
         ensures spans { OnOk result (self.new.spans ≡ self.old.spans ++ span ∷ []) }
     {

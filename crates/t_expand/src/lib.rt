@@ -1,7 +1,8 @@
-//! The expander's definitions: what a unit defines (`specs/Units.antt`), what a core of a unit is (`specs/Meaning.antt`), and its first
-//! refusal (`specs/Refusals.antt`). The types of its answers.
+//! The expander: from the data of a text to the core of a unit, or to its first refusal. What a unit defines is `specs/Units.antt`, what
+//! a core of a unit is `specs/Meaning.antt`, and its first refusal `specs/Refusals.antt`.
 #![tactic(auto)]
 
+mod build;
 mod driver;
 mod driver_first;
 mod driver_state;

@@ -1,4 +1,5 @@
 pub mod Bindings
+pub mod Indexing
 pub mod Keeping
 pub mod Lists
 pub mod Loads

@@ -1,5 +1,5 @@
 -- What cells stand for: data, names and the names around a form.
-use Rattle.std.specs.Prelude.{◌≡◌, ℕ, ◌<◌, List, [], ◌∷◌, ◌++◌, map, reverse, slice_get, Option, Some, None}
+use Rattle.std.specs.Prelude.{◌≡◌, ℕ, ◌<◌, List, [], ◌∷◌, ◌++◌, map, slice_get, Option, Some, None}
 use Rattle.std.specs.Global.{Vec}
 use Rattle.t_base.specs.declared.basics.Name.{Name as NamePlace}
 use Rattle.t_base.specs.declared.basics.Span.{Span}
@@ -144,10 +144,6 @@ vars_of a = map (λ l. l.var) a.locals
 
 abbrev pub local : LocalName → Var → Local
 local name var = record { name = name; var = var }
-
--- of bindings in the order in which they are made
-abbrev pub innermost_first : List Local → List Local
-innermost_first locals = reverse locals
 
 abbrev pub without_first : List Local → List Local
 without_first [] = []

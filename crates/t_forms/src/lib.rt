@@ -6,6 +6,7 @@
 mod arena;
 mod builtins;
 mod loading;
+mod locals;
 mod making;
 mod reading;
 mod scope;

@@ -1,12 +1,12 @@
 // The names around a form.
 ghost use Rattle.std.specs.Prelude.{◌≡◌, ◌≢◌, ◌∷◌, [], List, ℕ, AllPairs, Option, Some, OnOk, option_map, slice_get};
-ghost use Rattle.t_forms.specs.Data.{Name as SpecName, written, is_same_new};
-ghost use Rattle.t_forms.specs.Held.{Around, IsName, IsTable, IsScope, IsMeaning, vars_of, local, innermost_first, without_first};
+ghost use Rattle.t_forms.specs.Data.{Name as SpecName, written};
+ghost use Rattle.t_forms.specs.Held.{Around, IsName, IsTable, IsScope, IsMeaning, vars_of, local, without_first};
 ghost use Rattle.t_forms.specs.Names.{Scope as SpecScope, Bound, meaning, builtin_meaning, defined_as, or_else};
-ghost use Rattle.t_forms.specs.Lookup.{is_same_key, var_bound};
 
 use crate::arena::New;
 use crate::builtins::{builtin_of, is_spelled};
+use crate::locals::Locals;
 use std::alloc::Global;
 use std::marker::Model;
 use t_base::{Memory, Name, Names, Prim, Var};
@@ -57,54 +57,16 @@ pub enum Meant {
 /// defines, by the places of names.
 #[derive(Drop)]
 pub struct Scope {
-    locals: Vec<Local>,
+    locals: Locals,
     table: Vec<Option<Defined>>,
 }
 
 impl Model for Scope {
-    ghost use Rattle.t_forms.specs.Held.{Around, innermost_first};
+    ghost use Rattle.t_forms.specs.Held.{Around};
 
     ghost Value = { Around };
 
-    ghost view = { λ s. record { locals = innermost_first s.locals.items; table = s.table.items } };
-}
-
-fn is_same_new(a: New, b: New) -> bool
-    ensures { result ≡ is_same_new a b }
-{
-    match (a, b) {
-        (New::Answer, New::Answer) => true,
-        (New::Chosen, New::Chosen) => true,
-        (New::Turn, New::Turn) => true,
-        (New::Start, New::Start) => true,
-        (New::Own, New::Own) => true,
-        (New::Content, New::Content) => true,
-        (New::Part(i), New::Part(j)) => i == j,
-        _ => false,
-    }
-}
-
-fn is_same(a: LocalName, b: LocalName) -> bool
-    ensures { result ≡ is_same_key a b }
-{
-    match (a, b) {
-        (LocalName::Written(a), LocalName::Written(b)) => a.0 == b.0,
-        (LocalName::Made(a), LocalName::Made(b)) => is_same_new(a, b),
-        _ => false,
-    }
-}
-
-/// The variable of the innermost binding of a name, of bindings with the innermost last.
-fn var_bound(locals: &[Local], name: LocalName) -> Option<Var>
-    ensures { result ≡ var_bound (innermost_first locals.now) name }
-{
-    let mut found = None;
-    'locals: for local in locals {
-        if is_same(local.name, name) {
-            found = Some(local.var);
-        }
-    }
-    found
+    ghost view = { λ s. record { locals = s.locals; table = s.table.items } };
 }
 
 /// What a name means where the unit doesn't define it.
@@ -163,7 +125,7 @@ impl Scope {
         ensures { result ≡ record { locals = []; table = table.items } }
     {
         Scope {
-            locals: Vec::new(alloc),
+            locals: Locals::new(alloc),
             table,
         }
     }
@@ -172,7 +134,7 @@ impl Scope {
     pub fn bind(&mut self, name: LocalName, var: Var) -> Result<(), Memory>
         ensures { OnOk result (self.new ≡ record { locals = local name var ∷ self.old.locals; table = self.old.table }) }
     {
-        self.locals.push(Local { name, var })?;
+        self.locals.bind(Local { name, var })?;
         Ok(())
     }
 
@@ -180,14 +142,14 @@ impl Scope {
     pub fn unbind(&mut self)
         ensures { self.new ≡ record { locals = without_first self.old.locals; table = self.old.table } }
     {
-        let _last = self.locals.pop();
+        self.locals.unbind();
     }
 
     /// What a name means. It takes no memory.
     pub fn meaning(&self, names: &Names, name: LocalName) -> Meant
         ensures { (n : SpecName) (scope : SpecScope) → AllPairs (λ a b. a ≢ b) names.now → IsName names.now name n → IsScope names.now self.now scope → IsMeaning (vars_of self.now) result (meaning scope n) }
     {
-        match var_bound(self.locals.as_slice(), name) {
+        match self.locals.var(name) {
             Some(var) => Meant::Local(var),
             None => match name {
                 LocalName::Made(_) => Meant::Nothing,

@@ -1,4 +1,4 @@
-use Rattle.std.proofs.Common.{sym, subst, ◌∙◌, ap, refl}
+use Rattle.std.proofs.Common.{subst}
 use Rattle.t_expand.specs.Quoting.{Quotes}
 use Rattle.t_expand.specs.declared.quoted.Quoting.TheVariants as quoting
 use Rattle.t_expand.proofs.QuotedLemmas.{begun, all_made, none_left, AddsConstants_refl, AddsConstants_trans}

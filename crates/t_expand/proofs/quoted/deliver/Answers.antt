@@ -1,4 +1,4 @@
-use Rattle.std.proofs.Common.{sym, subst, ◌∙◌, ap, refl, ◌++◌, ◌∷◌, []}
+use Rattle.std.proofs.Common.{sym, subst, refl, ◌++◌, ◌∷◌, []}
 use Rattle.t_expand.specs.Quoting.{Quotes}
 use Rattle.t_expand.specs.declared.quoted.Quoting.TheVariants as quoting
 use Rattle.t_expand.proofs.QuotedLemmas.{second_half, pair_made, Adds_refl}

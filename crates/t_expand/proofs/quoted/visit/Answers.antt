@@ -1,4 +1,4 @@
-use Rattle.std.proofs.Common.{sym, subst, ◌∙◌, ap}
+use Rattle.std.proofs.Common.{sym, subst}
 use Rattle.t_expand.specs.Quoting.{Quotes}
 use Rattle.t_expand.specs.declared.quoted.Quoting.TheVariants as quoting
 use Rattle.t_expand.proofs.QuotedLemmas.{first_half, atom_made}
