@@ -16,4 +16,6 @@ pub mod SoFarLemmas
 pub mod SpellingLemmas
 pub mod StepLemmas
 pub mod TopLemmas
+pub mod UnitLemmas
 pub mod ValueLemmas
+pub mod WholeLemmas

@@ -1,5 +1,6 @@
 -- What the expansion of a unit comes to.
-use Rattle.std.specs.Prelude.{◌≡◌, ℕ, ◌≤◌, List, [], length, sum_by, Result, Ok, Err, None}
+use Rattle.std.specs.Prelude.{◌≡◌, ℕ, ◌≤◌, List, [], length, map, slice_get, sum_by, Result, Ok, Err, Some, None}
+use Rattle.std.specs.Global.{Vec}
 use Rattle.t_base.specs.declared.basics.Span.{Span}
 use Rattle.t_base.specs.declared.shared_parts.Shared.{Shared}
 use Rattle.t_core.specs.declared.forms.UnitCore.{UnitCore}
@@ -11,7 +12,15 @@ use Rattle.t_expand.specs.declared.entries.Entries.{Entries}
 use Rattle.t_expand.specs.declared.fault.SyntaxFault.{SyntaxFault}
 use Rattle.t_expand.specs.declared.fault.SyntaxFault.TheVariants as faults
 use Rattle.t_expand.specs.declared.unit_all.FormList.{FormList}
-use Rattle.t_expand.specs.Growth.{IsGrown}
+use Rattle.t_expand.specs.Growth.{IsGrown, IsReady}
+use Rattle.t_expand.specs.Meaning.{IsCoreOf}
+use Rattle.t_expand.specs.Refusals.{RefusedIn, IsFirstRefusal}
+use Rattle.t_expand.specs.Tops.{AreTops}
+use Rattle.t_expand.specs.Units.{tops_of, definitions_of, global_texts, op_texts}
+use Rattle.t_expand.specs.declared.tops.Top.{Top as CodeTop}
+use Rattle.t_rows.specs.Rows.{refusal}
+use Rattle.t_forms.specs.Data.{datum_of}
+use Rattle.t_reader.specs.Grammar.{Tree}
 
 -- a refusal of this kind at this place, unless memory ran out
 abbrev pub IsRefusedWith : {A : Type 0} → Refusal → Result A SyntaxFault → Type 0
@@ -38,3 +47,18 @@ pub record IsFinished (bytes : ℕ) (shared : Shared) (list : FormList) (unit : 
   pub ops : unit.shared.ops.items ≡ shared.ops.items
   pub forms : unit.forms.items ≡ list.forms.items
   pub spans_are : spans ≡ list.spans.items
+
+-- The forms at top level are those of the data, and the names mean what they define.
+pub record IsPrepared (names : List (List ℕ)) (trees : List Tree) (e : Expansion) (tops : List CodeTop) : Type 0 where
+  pub ready : IsReady e (definitions_of (tops_of (map datum_of trees)))
+  pub tops_are : AreTops e.shared.names e.forms tops (tops_of (map datum_of trees))
+  pub first : e.first ≡ None
+  pub names_are : e.shared.names ≡ names
+  pub globals : map (λ text. Some text) (global_texts (tops_of (map datum_of trees))) ≡ map (λ g. slice_get names g.name.0) e.shared.globals.items
+  pub ops : map (λ text. Some text) (op_texts (tops_of (map datum_of trees))) ≡ map (λ o. slice_get names o.name.0) e.shared.ops.items
+
+-- a core, and then nothing is refused; or the first refusal; or memory ran out
+abbrev pub IsOutcome : List Tree → Result (UnitCore × Vec (List Span)) SyntaxFault → Type 0
+IsOutcome trees (Ok x) = IsCoreOf trees x.0 x.1.items × ((r : Refusal) → RefusedIn (tops_of (map datum_of trees)) r → ⊥)
+IsOutcome trees (Err faults.Memory) = Unit {0}
+IsOutcome trees (Err (faults.Fault kind span)) = IsFirstRefusal trees (refusal kind span)

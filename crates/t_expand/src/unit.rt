@@ -1,8 +1,8 @@
 //! The core of a unit, or its first refusal.
-ghost use Rattle.std.specs.Prelude.{◌≡◌, ◌+◌, ◌≤◌, ◌^◌, true, List, length, map, sum_by, IfOk};
+ghost use Rattle.std.specs.Prelude.{◌≡◌, ◌≢◌, ◌+◌, ◌++◌, ◌≤◌, ◌^◌, ℕ, AllPairs, true, List, length, map, sum_by, IfOk};
 ghost use Rattle.t_base.specs.declared.basics.Span.{Span};
 ghost use Rattle.t_reader.specs.Grammar.{Tree};
-ghost use Rattle.t_reader.specs.Unit.{HoldTrees, string_bytes};
+ghost use Rattle.t_reader.specs.Unit.{HoldTrees, fixed_names, string_bytes};
 ghost use Rattle.t_reader.specs.Unit.{IsWhole as IsWholeText};
 ghost use Rattle.t_prim.specs.SharedParts.{HasLowerParts};
 ghost use Rattle.t_objects.specs.Operations.{IsTableOf};
@@ -15,13 +15,13 @@ ghost use Rattle.t_rows.specs.Rows.{refusal};
 ghost use Rattle.t_expand.specs.Units.{tops_of};
 ghost use Rattle.t_expand.specs.Meaning.{IsCoreOf};
 ghost use Rattle.t_expand.specs.Refusals.{RefusedIn, IsFirstRefusal};
-ghost use Rattle.t_expand.specs.Outcome.{IsRefusedWith, IsStarted, IsFinished};
+ghost use Rattle.t_expand.specs.Outcome.{IsRefusedWith, IsStarted, IsPrepared, IsOutcome, IsFinished};
 
 use crate::driver_state::{Expansion, NodeList};
 use crate::entries::{Entries, entries_of};
 use crate::fault::SyntaxFault;
 use crate::spans::Spans;
-use crate::tops::tops_of;
+use crate::tops::{Top, tops_of};
 use crate::unit_all::FormList;
 use crate::unit_bytes::{bytes_kept, bytes_read};
 use crate::unit_size::largest;
@@ -31,8 +31,15 @@ use t_base::{Memory, Names, Shared};
 use t_core::UnitCore;
 use t_forms::{Forms, Scope, load};
 use t_objects::OpTable;
-use t_reader::Unit;
+use t_reader::{Node, Unit};
 use t_rows::Refusal;
+
+/// Forms at top level before the first is expanded.
+#[derive(Drop)]
+pub struct Prepared {
+    pub expansion: Expansion,
+    pub tops: Vec<Top>,
+}
 
 /// Before the first form: nothing is bound, and nothing is made or refused yet.
 fn started(alloc: Global, names: Names, forms: Forms, entries: Entries) -> Expansion
@@ -58,6 +65,26 @@ fn started(alloc: Global, names: Names, forms: Forms, entries: Entries) -> Expan
         nodes: NodeList::new(alloc),
         next: 0,
         first: None,
+    }
+}
+
+/// The forms at top level of these data, and what they define.
+fn prepare(alloc: Global, names: Names, nodes: &[Node], keys: &[u32]) -> Result<Prepared, Memory>
+    ensures { (trees : List Tree) (others : List (List ℕ)) → HoldTrees names nodes.now keys.now trees → names ≡ fixed_names ++ others → AllPairs (λ a b. a ≢ b) names → IfOk result (λ p. IsPrepared names trees p.expansion p.tops.items) }
+{
+    let mut forms = load(alloc, nodes, &names)?;
+    let tops = tops_of(&mut forms, &names, keys)?;
+    let entries = entries_of(alloc, &names, tops.as_slice())?;
+    let expansion = started(alloc, names, forms, entries);
+    Ok(Prepared { expansion, tops })
+}
+
+fn fault_of(refusal: Refusal) -> SyntaxFault
+    ensures { result ≡ SyntaxFault.Fault refusal.kind refusal.span }
+{
+    SyntaxFault::Fault {
+        kind: refusal.kind,
+        span: refusal.span,
     }
 }
 
@@ -97,6 +124,29 @@ fn finished(
     }
 }
 
+/// The core of a unit whose forms are prepared, or its first refusal.
+fn expand_prepared(
+    prepared: Prepared,
+    ops: &OpTable,
+    bytes: u64,
+) -> Result<(UnitCore, Vec<Spans>), SyntaxFault>
+    ensures outcome { (names : List (List ℕ)) (trees : List Tree) → IsPrepared names trees prepared.expansion prepared.tops.items → IsOutcome trees result }
+    ensures made { IfOk result (λ x. IsSound x.0) }
+    ensures names { (names : List (List ℕ)) (trees : List Tree) → IsPrepared names trees prepared.expansion prepared.tops.items → IfOk result (λ x. x.0.shared.names ≡ names) }
+    ensures bytes { IfOk result (λ x. sum_by length x.0.shared.strings.items ≤ bytes) }
+{
+    let Prepared { expansion, tops } = prepared;
+    let mut expansion = expansion;
+    let list = expansion.expand_all(tops.as_slice())?;
+    match expansion.first {
+        Some(refusal) => Err(fault_of(refusal)),
+        None => {
+            let made = finished(expansion, list, ops, bytes)?;
+            Ok(made)
+        }
+    }
+}
+
 /// The core of a unit with the spans of its nodes, or the first refusal of the unit.
 ///
 /// The unit is whole, as `read_unit` gives it, and `ops` is what `resolve_ops` gives for it. `Ok` is a core of the data, with the spans
@@ -120,21 +170,11 @@ pub fn expand_spans(
     let Unit {
         names,
         nodes,
-        forms: keys,
+        forms,
     } = unit;
     let bytes = bytes_read(nodes.as_slice())?;
-    let mut forms = load(alloc, nodes.as_slice(), &names)?;
-    let tops = tops_of(&mut forms, &names, keys.as_slice())?;
-    let entries = entries_of(alloc, &names, tops.as_slice())?;
-    let mut expansion = started(alloc, names, forms, entries);
-    let list = expansion.expand_all(tops.as_slice())?;
-    match expansion.first {
-        Some(Refusal { kind, span }) => Err(SyntaxFault::Fault { kind, span }),
-        None => {
-            let made = finished(expansion, list, ops, bytes)?;
-            Ok(made)
-        }
-    }
+    let prepared = prepare(alloc, names, nodes.as_slice(), forms.as_slice())?;
+    expand_prepared(prepared, ops, bytes)
 }
 
 /// The core of a unit, or the first refusal of the unit: the first half of what `expand_spans` gives, under its conditions.

@@ -1,0 +1,16 @@
+use Rattle.std.proofs.Common.{refl}
+use Rattle.t_expand.proofs.KeepingLemmas.{grown_same}
+use Rattle.t_expand.proofs.unit.finished.Goals as goal
+
+pub returns-then-branch : goal.returns-then-branch
+returns-then-branch c =
+    let g = grown_same c.args.expansion.shared in
+    record {
+      sound = c.in_ok-is_right.ensures.sound c.if-branch.true;
+      room = c.in_ok-is_right.ensures.room c.if-branch.true;
+      grown = record { names = g.names; strings = g.strings; pairs = g.pairs };
+      globals = refl;
+      ops = refl;
+      forms = refl;
+      spans_are = refl;
+    }
