@@ -1,31 +1,27 @@
 -- What a unit defines, definition by definition.
-use Rattle.std.proofs.Common.{◌≡◌, ◌≢◌, ℕ, suc, zero, ◌+◌, ◌<◌, ◌==◌, ◌||◌, Bool, true, false, not, List, [], ◌∷◌, ◌++◌, length, map, Option, Some, None, is_some, slice_get, slice_set, AllPairs, Result, Ok, Err, OnOk, refl, sym, ap, subst, ◌∙◌, if◌then◌else◌, add-zero, arith}
-use Rattle.std.specs.List.{list_any, filter}
+use Rattle.std.proofs.Common.{◌≡◌, ◌≢◌, ℕ, suc, ◌+◌, ◌==◌, ◌||◌, Bool, true, false, not, List, [], ◌∷◌, ◌++◌, length, map, Option, Some, None, is_some, slice_get, slice_set, AllPairs, refl, sym, ap, subst, ◌∙◌, if◌then◌else◌, arith}
+use Rattle.std.specs.List.{filter}
 use Rattle.std.specs.Str.{bytes_eq}
-use Rattle.std.specs.Bool.{Decides}
 use Rattle.std.specs.Prelude.{codes}
 use Rattle.std.proofs.lemmas.Bool.Decides.{Decides-eqb}
 use Rattle.std.proofs.lemmas.List.{append-nil, map-append, length-map}
 use Rattle.std.proofs.lemmas.List.Elements.{filter-append}
 use Rattle.std.proofs.lemmas.Option.{same_Some}
-use Rattle.t_base.specs.declared.basics.Memory.{Memory}
 use Rattle.t_base.specs.declared.basics.Name.{Name as NamePlace}
 use Rattle.t_base.specs.declared.shared_parts.Global1.{Global1}
 use Rattle.t_base.specs.declared.shared_parts.GlobalKind.{GlobalKind}
 use Rattle.t_base.specs.declared.shared_parts.GlobalKind.TheVariants as kinds
 use Rattle.t_base.specs.declared.shared_parts.OpInfo.{OpInfo}
 use Rattle.t_forms.specs.declared.arena.Cell.{Cell}
-use Rattle.t_forms.specs.declared.arena.New.{New}
 use Rattle.t_forms.specs.declared.scope.LocalName.{LocalName}
 use Rattle.t_forms.specs.declared.scope.LocalName.TheVariants as key
 use Rattle.t_forms.specs.declared.scope.Defined.{Defined}
 use Rattle.t_forms.specs.declared.scope.Defined.TheVariants as kept
-use Rattle.t_forms.specs.Data.{Name, written, made, is_same_name, Binder, Datum}
+use Rattle.t_forms.specs.Data.{Name, written, made, is_same_name}
 use Rattle.t_forms.specs.Names.{Meaning, Bound, bound, a_global, an_op, defined_as}
 use Rattle.t_forms.specs.Held.{IsName, IsTable, IsDefined}
 use Rattle.t_forms.proofs.Bindings.{same_place, nothing_defined}
 use Rattle.t_rows.specs.declared.definitions.Definition.{Definition as CodeDefinition}
-use Rattle.t_rows.specs.declared.definitions.Definition.TheVariants as code
 use Rattle.t_rows.specs.Definitions.{IsDefinitionOf}
 use Rattle.t_rows.specs.Rows.{Definition, define, lset, operation_form}
 use Rattle.t_expand.specs.Entries.{AreEntries, IsGlobalAdded, IsOpAdded, IsPut, is_variable}
@@ -186,17 +182,17 @@ global_added : (names : List (List ℕ)) (old new : Entries) (es : List Entry) (
     → is_assigned e.by ≡ is_variable k → IsGlobalAdded old new p k → AreEntries names new (es ++ e ∷ [])
 global_added names old new es e p k t apart are n here free global assigned added =
     let place : length old.globals.items ≡ 0 + length (filter (λ x. is_global x.by) es) =
-        (let c = as_many_texts (λ (g : Global1). slice_get names g.name.0) (texts (filter (λ x. is_global x.by) es)) old.globals.items are.globals in
-        let l : length (texts (filter (λ x. is_global x.by) es)) ≡ length (filter (λ x. is_global x.by) es) = length-map (filter (λ x. is_global x.by) es) (λ x. text_of x.name) in
-        omega (arith, c, l)) in
+    (let c = as_many_texts (λ (g : Global1). slice_get names g.name.0) (texts (filter (λ x. is_global x.by) es)) old.globals.items are.globals in
+    let l : length (texts (filter (λ x. is_global x.by) es)) ≡ length (filter (λ x. is_global x.by) es) = length-map (filter (λ x. is_global x.by) es) (λ x. text_of x.name) in
+    omega (arith, c, l)) in
     let is_op : not (is_global e.by) ≡ false = rw global refl in
     record {
       table =
-        rw (added.table, global_last es e 0 3 (length old.globals.items) global place, n, assigned)
-        (table_more names old.table.items (meanings_from 0 3 es) p.0 t (a_global (length old.globals.items) (is_variable k)) (kept.Global (length old.globals.items) (is_variable k)) apart are.table here free refl);
+          rw (added.table, global_last es e 0 3 (length old.globals.items) global place, n, assigned)
+          (table_more names old.table.items (meanings_from 0 3 es) p.0 t (a_global (length old.globals.items) (is_variable k)) (kept.Global (length old.globals.items) (is_variable k)) apart are.table here free refl);
       globals =
-        rw (texts_last (λ x. is_global x.by) es e t global n, added.globals)
-        (text_last (λ (g : Global1). slice_get names g.name.0) (texts (filter (λ x. is_global x.by) es)) old.globals.items (record { name = p; kind = k }) t are.globals here);
+          rw (texts_last (λ x. is_global x.by) es e t global n, added.globals)
+          (text_last (λ (g : Global1). slice_get names g.name.0) (texts (filter (λ x. is_global x.by) es)) old.globals.items (record { name = p; kind = k }) t are.globals here);
       ops = rw (texts_same (λ x. not (is_global x.by)) es e is_op, added.ops) are.ops;
     }
 
@@ -206,19 +202,19 @@ op_added : (names : List (List ℕ)) (old new : Entries) (es : List Entry) (e : 
 op_added names old new es e p default t apart are n here free global added =
     let builtins = codes "setter" ∷ codes "contents" ∷ codes "set-contents" ∷ texts (filter (λ x. not (is_global x.by)) es) in
     let place : length old.ops.items ≡ 3 + length (filter (λ x. not (is_global x.by)) es) =
-        (let c = as_many_texts (λ (o : OpInfo). slice_get names o.name.0) builtins old.ops.items are.ops in
-        let l : length (texts (filter (λ x. not (is_global x.by)) es)) ≡ length (filter (λ x. not (is_global x.by)) es) = length-map (filter (λ x. not (is_global x.by)) es) (λ x. text_of x.name) in
-        let m : length builtins ≡ suc (suc (suc (length (texts (filter (λ x. not (is_global x.by)) es))))) = refl in
-        omega (arith, c, l, m)) in
+    (let c = as_many_texts (λ (o : OpInfo). slice_get names o.name.0) builtins old.ops.items are.ops in
+    let l : length (texts (filter (λ x. not (is_global x.by)) es)) ≡ length (filter (λ x. not (is_global x.by)) es) = length-map (filter (λ x. not (is_global x.by)) es) (λ x. text_of x.name) in
+    let m : length builtins ≡ suc (suc (suc (length (texts (filter (λ x. not (is_global x.by)) es))))) = refl in
+    omega (arith, c, l, m)) in
     let is_op : not (is_global e.by) ≡ true = rw global refl in
     record {
       table =
-        rw (added.table, op_last es e 0 3 (length old.ops.items) global place, n)
-        (table_more names old.table.items (meanings_from 0 3 es) p.0 t (an_op (length old.ops.items)) (kept.Operation (length old.ops.items)) apart are.table here free refl);
+          rw (added.table, op_last es e 0 3 (length old.ops.items) global place, n)
+          (table_more names old.table.items (meanings_from 0 3 es) p.0 t (an_op (length old.ops.items)) (kept.Operation (length old.ops.items)) apart are.table here free refl);
       globals = rw (texts_same (λ x. is_global x.by) es e global, added.globals) are.globals;
       ops =
-        rw (texts_last (λ x. not (is_global x.by)) es e t is_op n, added.ops)
-        (text_last (λ (o : OpInfo). slice_get names o.name.0) builtins old.ops.items (record { name = p; default = default }) t are.ops here);
+          rw (texts_last (λ x. not (is_global x.by)) es e t is_op n, added.ops)
+          (text_last (λ (o : OpInfo). slice_get names o.name.0) builtins old.ops.items (record { name = p; default = default }) t are.ops here);
     }
 
 put_entry : (names : List (List ℕ)) (cells : List Cell) (old new : Entries) (es : List Entry) (c : CodeDefinition) (d : Definition) (p : NamePlace)

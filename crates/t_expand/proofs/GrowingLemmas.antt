@@ -1,5 +1,5 @@
 -- A core stays one where strings and pairs are only added.
-use Rattle.std.proofs.Common.{◌≡◌, ℕ, Bool, false, List, [], ◌∷◌, ◌++◌, Option, Some, slice_get, refl, sym, subst, ◌∙◌}
+use Rattle.std.proofs.Common.{◌≡◌, ℕ, Bool, false, List, [], ◌++◌, Some, slice_get, refl, sym, subst}
 use Rattle.t_base.specs.declared.basics.Span.{Span}
 use Rattle.t_base.specs.declared.basics.Var.{Var}
 use Rattle.t_base.specs.declared.shared_parts.Const.{Const}
@@ -9,7 +9,7 @@ use Rattle.t_core.specs.declared.forms.Core.{Core}
 use Rattle.t_core.specs.declared.forms.Core.TheVariants as Node
 use Rattle.t_core.specs.Nodes.{parts_of, Part}
 use Rattle.t_forms.specs.Data.{Datum, atom, cons, given, variable, builtin, operation, listing}
-use Rattle.t_forms.specs.Names.{Scope, Bound, within}
+use Rattle.t_forms.specs.Names.{Scope, Bound}
 use Rattle.t_forms.proofs.Keeping.{keeps_append}
 use Rattle.t_rows.specs.Rows.{Shape, constant, Part as Form}
 use Rattle.t_expand.specs.Growth.{IsGrown}

@@ -1,11 +1,10 @@
 -- What an expansion keeps.
-use Rattle.std.proofs.Common.{◌≡◌, ◌≢◌, ℕ, List, [], ◌++◌, map, AllPairs, refl, sym, ap, subst, ◌∙◌, append_assoc}
+use Rattle.std.proofs.Common.{◌≡◌, ◌≢◌, List, [], ◌++◌, map, AllPairs, refl, sym, ap, subst, ◌∙◌, append_assoc}
 use Rattle.std.proofs.lemmas.List.{append-nil}
 use Rattle.t_base.specs.declared.shared_parts.Shared.{Shared}
-use Rattle.t_forms.specs.Data.{Datum}
 use Rattle.t_forms.specs.Names.{Bound}
-use Rattle.t_forms.specs.Held.{Held, Extends, IsScope, vars_of}
-use Rattle.t_forms.proofs.Keeping.{extends_same, extends_trans, held_grows}
+use Rattle.t_forms.specs.Held.{IsScope, vars_of}
+use Rattle.t_forms.proofs.Keeping.{extends_same, extends_trans}
 use Rattle.t_expand.specs.Expanding.{Grows}
 use Rattle.t_expand.specs.Growth.{IsGrown, Keeps, IsReady}
 use Rattle.t_expand.specs.Meaning.{top_scope}

@@ -1,19 +1,18 @@
 -- What a definition is kept as.
-use Rattle.std.proofs.Common.{◌≡◌, ℕ, Bool, true, false, List, Option, Some, None, refl, sym, subst, if◌then◌else◌}
+use Rattle.std.proofs.Common.{◌≡◌, ℕ, Bool, true, false, List, Option, Some, None, sym, subst, if◌then◌else◌}
 use Rattle.std.specs.Str.{bytes_eq}
 use Rattle.std.specs.Prelude.{codes}
 use Rattle.std.proofs.lemmas.Option.{same_Some}
 use Rattle.t_base.specs.declared.basics.Var.{Var}
 use Rattle.t_base.specs.declared.builtins.Builtin.{Builtin}
 use Rattle.t_core.specs.declared.forms.FormKind.{FormKind}
-use Rattle.t_core.specs.declared.forms.FormKind.TheVariants as kind
 use Rattle.t_objects.specs.Words.{spelled}
 use Rattle.t_forms.specs.declared.arena.Cell.{Cell}
 use Rattle.t_forms.specs.declared.scope.Meant.{Meant}
 use Rattle.t_forms.specs.declared.scope.Meant.TheVariants as meant
 use Rattle.t_forms.specs.Builtins.{builtin_named}
 use Rattle.t_forms.specs.Data.{Name, written, made, Datum, Binder}
-use Rattle.t_forms.specs.Names.{Meaning, a_local, a_global, an_op, the_builtin, the_operation, the_truth, the_listing, none, Bound, or_else, operation_names, builtin_meaning, beyond, defined_as, meaning}
+use Rattle.t_forms.specs.Names.{Meaning, a_local, a_global, an_op, the_builtin, the_operation, the_truth, the_listing, none, Bound, or_else, operation_names, beyond, defined_as, meaning}
 use Rattle.t_forms.specs.Held.{IsMeaning}
 use Rattle.t_rows.specs.declared.definitions.Definition.{Definition as CodeDefinition}
 use Rattle.t_rows.specs.declared.definitions.Definition.TheVariants as code

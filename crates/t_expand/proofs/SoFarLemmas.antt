@@ -1,6 +1,6 @@
 -- From one form at top level to the next.
-use Rattle.std.proofs.Common.{◌≡◌, ◌⊎◌, inl, inr, ℕ, suc, zero, ◌+◌, ◌<◌, ◌≤◌, Bool, false, true, List, [], ◌∷◌, ◌++◌, length, take, replicate, get_or, map, Option, Some, None, slice_get, AllPairs, refl, sym, ap, subst, ◌∙◌, arith}
-use Rattle.std.proofs.lemmas.List.{take-append-le, length-append, take_more, length-replicate, get_or-replicate}
+use Rattle.std.proofs.Common.{◌≡◌, ◌⊎◌, inl, inr, ℕ, suc, zero, ◌+◌, ◌<◌, ◌≤◌, Bool, false, List, [], ◌∷◌, ◌++◌, length, take, replicate, get_or, Some, None, slice_get, refl, sym, ap, subst, ◌∙◌, arith}
+use Rattle.std.proofs.lemmas.List.{take-append-le, length-append, length-replicate, get_or-replicate}
 use Rattle.std.proofs.lemmas.Bool.{cases_order}
 use Rattle.std.proofs.lemmas.Option.{slice_get_within, slice_get-get_or, get_or_from_slice_get, same_Some}
 use Rattle.std.proofs.Math.Seq.{take-append_seam}
@@ -12,7 +12,7 @@ use Rattle.t_forms.specs.Names.{Bound}
 use Rattle.t_forms.specs.declared.arena.Cell.{Cell}
 use Rattle.t_forms.proofs.Keeping.{keeps_append}
 use Rattle.t_rows.specs.declared.refusal.Refusal.{Refusal}
-use Rattle.t_expand.specs.Growth.{IsGrown, Keeps, IsReady}
+use Rattle.t_expand.specs.Growth.{IsGrown, Keeps}
 use Rattle.t_expand.specs.Marks.{Marks}
 use Rattle.t_expand.specs.Meaning.{FormMeans, FormsMean}
 use Rattle.t_expand.specs.Refusals.{IsFirstOf, RefusedTop, RefusedAmong}

@@ -6,7 +6,7 @@ use Rattle.t_base.specs.declared.basics.Span.{Span}
 use Rattle.t_base.specs.declared.shared_parts.Shared.{Shared}
 use Rattle.t_core.specs.declared.forms.FormKind.{FormKind}
 use Rattle.t_forms.specs.declared.arena.Cell.{Cell}
-use Rattle.t_forms.specs.Data.{Datum, Binder, Name}
+use Rattle.t_forms.specs.Data.{Datum, Name}
 use Rattle.t_forms.specs.Names.{Bound}
 use Rattle.t_forms.specs.Held.{Held, AllHeld, Extends}
 use Rattle.t_forms.proofs.Keeping.{held_grows}
@@ -17,7 +17,7 @@ use Rattle.t_expand.specs.Growth.{Keeps}
 use Rattle.t_expand.specs.Meaning.{TopMeans, FormMeans}
 use Rattle.t_expand.specs.Rooted.{nodes_of}
 use Rattle.t_expand.specs.Tops.{IsTop, AreTops}
-use Rattle.t_expand.specs.Units.{Top, defining, broken, expression, names_of, names_defined, defined_name, top_of}
+use Rattle.t_expand.specs.Units.{Top, defining, broken, expression, names_of, names_defined, top_of}
 use Rattle.t_expand.specs.declared.driver_state.Expansion.{Expansion}
 use Rattle.t_expand.specs.declared.tops.Top.{Top as CodeTop}
 use Rattle.t_expand.specs.declared.tops.Top.TheVariants as code

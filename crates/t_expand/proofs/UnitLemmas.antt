@@ -1,8 +1,7 @@
 -- The core of a unit, put together.
-use Rattle.std.proofs.Common.{◌≡◌, ◌≢◌, ◌⊎◌, inl, inr, ℕ, ◌+◌, ◌≤◌, ◌<◌, ◌^◌, List, [], ◌∷◌, ◌++◌, length, map, sum_by, Option, Some, None, Result, Ok, Err, IfOk, arith, slice_get, AllPairs, refl, sym, ap, subst, ◌∙◌}
+use Rattle.std.proofs.Common.{◌≡◌, ◌≢◌, ℕ, ◌+◌, ◌≤◌, ◌^◌, List, [], ◌∷◌, length, map, sum_by, Option, Some, None, Result, Ok, Err, IfOk, arith, slice_get, AllPairs, refl, sym, ap, subst, ◌∙◌}
 use Rattle.std.proofs.lemmas.Option.{same_Some}
 use Rattle.t_base.specs.declared.basics.Span.{Span}
-use Rattle.t_base.specs.declared.basics.Name.{Name as NamePlace}
 use Rattle.t_base.specs.declared.shared_parts.Global1.{Global1}
 use Rattle.t_base.specs.declared.shared_parts.Shared.{Shared}
 use Rattle.t_reader.specs.Grammar.{Tree}
@@ -12,16 +11,16 @@ use Rattle.core_check.specs.Sound.{IsSound}
 use Rattle.t_forms.specs.declared.arena.Cell.{Cell}
 use Rattle.t_forms.specs.Data.{datum_of}
 use Rattle.t_forms.specs.Names.{Bound}
-use Rattle.t_forms.specs.Held.{IsScope, AreNames, IsTable}
+use Rattle.t_forms.specs.Held.{AreNames}
 use Rattle.std.specs.Global.{Vec}
 use Rattle.t_rows.specs.Rows.{refusal}
 use Rattle.t_rows.specs.declared.refusal.SyntaxKind.{SyntaxKind}
 use Rattle.t_rows.specs.declared.refusal.Refusal.{Refusal}
 use Rattle.t_expand.specs.Entries.{AreEntries}
 use Rattle.t_expand.specs.Growth.{IsGrown, Keeps, IsReady}
-use Rattle.t_expand.specs.Meaning.{IsCoreOf, FormsMean, top_scope}
+use Rattle.t_expand.specs.Meaning.{IsCoreOf, FormsMean}
 use Rattle.t_expand.specs.Outcome.{IsStarted, IsPrepared, IsFinished, IsOutcome, IsRefusedWith}
-use Rattle.t_expand.specs.Refusals.{IsFirstOf, IsFirstRefusal, RefusedAmong, RefusedIn, Precedes, number}
+use Rattle.t_expand.specs.Refusals.{IsFirstOf, IsFirstRefusal, RefusedAmong, RefusedIn, number}
 use Rattle.t_expand.specs.Tops.{AreTops}
 use Rattle.t_expand.specs.declared.tops.Top.{Top as CodeTop}
 use Rattle.t_expand.specs.Units.{Top, tops_of, entries_of, definitions_of}

@@ -1,5 +1,5 @@
 -- What a definition defines, as a form.
-use Rattle.std.proofs.Common.{◌≡◌, ◌⊎◌, ℕ, List, [], ◌∷◌, Contains, Option, Some, None, Result, Ok, Err, IfOk, OnOk, refl, sym, subst, arith}
+use Rattle.std.proofs.Common.{◌≡◌, ◌⊎◌, ℕ, List, [], ◌∷◌, Contains, Option, Some, None, Result, Ok, Err, IfOk, OnOk, refl, subst, arith}
 use Rattle.t_base.specs.declared.basics.Memory.{Memory}
 use Rattle.t_base.specs.declared.shared_parts.Shared.{Shared}
 use Rattle.t_forms.specs.declared.arena.Cell.{Cell}

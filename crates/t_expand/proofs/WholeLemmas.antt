@@ -1,7 +1,6 @@
 -- Where a form is what its datum stands for, variables are used where they are bound.
-use Rattle.std.proofs.Common.{◌≡◌, ℕ, suc, zero, ◌+◌, ◌<◌, ◌≤◌, Bool, true, false, List, [], ◌∷◌, ◌++◌, length, map, get_or, Option, Some, None, slice_get, All, Contains, refl, sym, ap, subst, ◌∙◌, arith}
+use Rattle.std.proofs.Common.{◌≡◌, ℕ, suc, zero, ◌<◌, ◌≤◌, Bool, false, List, [], ◌∷◌, ◌++◌, length, map, Some, None, slice_get, All, Contains, refl, sym, ap, subst, ◌∙◌, arith}
 use Rattle.std.specs.List.{AllByRecursion}
-use Rattle.std.specs.Option.{IsSomeAnd}
 use Rattle.std.proofs.lemmas.List.{map-append}
 use Rattle.std.proofs.lemmas.List.Elements.{All-nil, All-cons, All-head, All-tail}
 use Rattle.std.proofs.lemmas.Option.{slice_get_within, get_or_from_slice_get}
@@ -13,10 +12,10 @@ use Rattle.t_core.specs.declared.forms.Core.TheVariants as Node
 use Rattle.t_core.specs.declared.forms.Form.{Form}
 use Rattle.t_core.specs.Nodes.{Part, part, early, block_parts, parts_of, places_of}
 use Rattle.t_core.specs.Whole.{IsInPlace, IsScopedWithin, IsScoped, IsTree, HasPlaces}
-use Rattle.t_forms.specs.Data.{Datum, Binder}
-use Rattle.t_forms.specs.Names.{Scope, Bound, Meaning}
-use Rattle.t_rows.specs.Rows.{Definition, define, lset, operation_form, Shape, constant, local, global, builtin_value, op_value, lambda, if_, block, let_, labels, set_local, set_global, catch_, object, call, primitive, nothing, Part as RowPart}
-use Rattle.t_expand.specs.Meaning.{Fits, Nodes, Means, as_form, as_node, AllMean, no_parts, one_part, RootMeans, DefaultMeans, ValueMeans, TopMeans, FormMeans, FormsMean}
+use Rattle.t_forms.specs.Data.{Datum}
+use Rattle.t_forms.specs.Names.{Scope, Bound}
+use Rattle.t_rows.specs.Rows.{Definition, define, lset, operation_form, Shape, constant, local, global, builtin_value, op_value, lambda, if_, block, let_, labels, set_local, set_global, catch_, object, call, primitive, Part as RowPart}
+use Rattle.t_expand.specs.Meaning.{Fits, Nodes, Means, as_form, as_node, AllMean, no_parts, one_part, RootMeans, ValueMeans, FormMeans, FormsMean}
 use Rattle.t_expand.specs.Units.{Top, defining, broken, expression}
 
 -- ---- the places of parts

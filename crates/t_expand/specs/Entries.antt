@@ -1,12 +1,9 @@
 -- What the code keeps of the names that a unit defines.
-use Rattle.std.specs.Prelude.{◌≡◌, ℕ, ◌<◌, Bool, true, false, not, List, [], ◌∷◌, ◌++◌, length, map, slice_get, slice_set, Option, Some, None, is_some, codes}
+use Rattle.std.specs.Prelude.{◌≡◌, ℕ, ◌<◌, Bool, true, false, not, List, [], ◌∷◌, ◌++◌, length, map, slice_get, slice_set, Some, is_some, codes}
 use Rattle.std.specs.List.{filter}
 use Rattle.t_base.specs.declared.basics.Name.{Name as NamePlace}
-use Rattle.t_base.specs.declared.shared_parts.Global1.{Global1}
 use Rattle.t_base.specs.declared.shared_parts.GlobalKind.{GlobalKind}
 use Rattle.t_base.specs.declared.shared_parts.GlobalKind.TheVariants as kind
-use Rattle.t_base.specs.declared.shared_parts.OpInfo.{OpInfo}
-use Rattle.t_forms.specs.declared.scope.Defined.{Defined}
 use Rattle.t_forms.specs.declared.scope.Defined.TheVariants as kept
 use Rattle.t_forms.specs.Held.{IsTable}
 use Rattle.t_rows.specs.declared.definitions.Definition.{Definition as CodeDefinition}

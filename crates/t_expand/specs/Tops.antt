@@ -1,5 +1,5 @@
 -- What the code's forms at top level are to those of the definition.
-use Rattle.std.specs.Prelude.{◌≡◌, ℕ, Bool, false, List, [], ◌∷◌, Option, Some, codes}
+use Rattle.std.specs.Prelude.{◌≡◌, ℕ, Bool, false, List, [], ◌∷◌, codes}
 use Rattle.std.specs.Str.{bytes_eq}
 use Rattle.t_reader.specs.Grammar.{symbol}
 use Rattle.t_forms.specs.declared.arena.Cell.{Cell}

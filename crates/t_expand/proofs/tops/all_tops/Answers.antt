@@ -1,4 +1,4 @@
-use Rattle.std.proofs.Common.{◌≡◌, ℕ, ◌≤◌, List, length, map, arith, subst}
+use Rattle.std.proofs.Common.{◌≤◌, List, length, map, arith, subst}
 use Rattle.std.proofs.lemmas.List.{take_all}
 use Rattle.t_forms.specs.Data.{Datum}
 use Rattle.t_forms.proofs.Keeping.{extends_trans}
@@ -11,10 +11,10 @@ pub keys-preserved : goal.keys-preserved
 keys-preserved c = record {
   grown = extends_trans c.keys.invariant.grown c.in_ok-top.ensures.grown;
   tops = λ names ds held.
-    rw c.in_ok-push.ensures.items
-    (next_top names c.args.forms.now c.keys.forms c.top_of.new.forms c.args.keys.now ds c.keys.key-index c.keys.tops.items c.in_ok-top.top
-    c.keys.invariant.grown c.in_ok-top.ensures.grown held c.keys-test.true (c.keys.invariant.tops names ds held)
-    (λ d h. c.in_ok-top.ensures.top names d h));
+      rw c.in_ok-push.ensures.items
+      (next_top names c.args.forms.now c.keys.forms c.top_of.new.forms c.args.keys.now ds c.keys.key-index c.keys.tops.items c.in_ok-top.top
+      c.keys.invariant.grown c.in_ok-top.ensures.grown held c.keys-test.true (c.keys.invariant.tops names ds held)
+      (λ d h. c.in_ok-top.ensures.top names d h));
 }
 
 pub returns-clause-tops : goal.returns-clause-tops

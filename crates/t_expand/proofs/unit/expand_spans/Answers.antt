@@ -1,4 +1,4 @@
-use Rattle.std.proofs.Common.{◌∙◌, List, length}
+use Rattle.std.proofs.Common.{List}
 use Rattle.t_reader.specs.Grammar.{Tree}
 use Rattle.t_reader.specs.Unit.{HoldTrees, string_bytes}
 use Rattle.t_expand.specs.Outcome.{IsPrepared, IsOutcome}

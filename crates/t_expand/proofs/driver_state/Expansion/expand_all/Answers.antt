@@ -1,4 +1,4 @@
-use Rattle.std.proofs.Common.{◌≡◌, ℕ, ◌≤◌, List, length, take, sym, subst, arith, ◌∙◌}
+use Rattle.std.proofs.Common.{◌≤◌, List, length, take, sym, subst, arith}
 use Rattle.std.proofs.lemmas.List.{take_all}
 use Rattle.t_forms.specs.Names.{Bound}
 use Rattle.t_expand.specs.Growth.{IsReady}

@@ -1,10 +1,7 @@
-use Rattle.std.proofs.Common.{◌≡◌, [], ◌∷◌, Contains, refl, sym, subst, ◌∙◌}
-use Rattle.t_rows.specs.Rows.{Definition}
-use Rattle.t_forms.specs.Names.{Bound}
-use Rattle.t_expand.specs.Growth.{Keeps, IsReady}
+use Rattle.std.proofs.Common.{[], ◌∷◌, Contains, refl, sym, subst, ◌∙◌}
 use Rattle.t_expand.specs.Marks.{Marks}
 use Rattle.t_expand.specs.Refusals.{RefusedDefinition, twice_defined}
-use Rattle.t_expand.specs.Units.{defining, names_defined, defined_name as name_of}
+use Rattle.t_expand.specs.Units.{defining, defined_name as name_of}
 use Rattle.t_expand.proofs.FirstLemmas.{first_then}
 use Rattle.t_expand.proofs.KeepingLemmas.{keeps_trans, ready_kept}
 use Rattle.t_expand.proofs.TopLemmas.{definition_kept, names_last, finished_means}

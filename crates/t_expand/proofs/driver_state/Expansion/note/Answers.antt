@@ -1,5 +1,4 @@
 use Rattle.t_expand.proofs.FirstLemmas.{first_of_is}
-use Rattle.t_expand.proofs.KeepingLemmas.{keeps_same}
 use Rattle.t_expand.proofs.driver_state.Expansion.note.Goals as goal
 
 pub returns-clause-first : goal.returns-clause-first
