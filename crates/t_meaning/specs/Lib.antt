@@ -5,3 +5,15 @@ pub mod Laws
 pub mod EscapeRules
 pub mod EscapeFacts
 pub mod Escape
+pub mod Programs
+pub mod Environment
+pub mod State
+pub mod Costs
+pub mod Outcomes
+pub mod Bindings
+pub mod Catches
+pub mod Operations
+pub mod Application
+pub mod Expressions
+pub mod Performing
+pub mod Units
