@@ -5,3 +5,6 @@ pub mod EscapeMonotone
 pub mod EscapeBounds
 pub mod EscapeLaws
 pub mod EscapeCalled
+pub mod BoundLemmas
+pub mod BoundTasks
+pub mod CostLemmas

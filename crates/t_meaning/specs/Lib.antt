@@ -17,3 +17,5 @@ pub mod Application
 pub mod Expressions
 pub mod Performing
 pub mod Units
+pub mod BoundLaws
+pub mod CostLaws

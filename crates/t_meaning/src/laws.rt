@@ -3,6 +3,8 @@
 pub mod escape;
 
 ghost use Rattle.t_meaning.specs.Laws.{MoreBoundKeeps, MoreBoundWaits, EndsAtSomeBound};
+ghost use Rattle.t_meaning.specs.BoundLaws.{TaskOnlyAdds, TaskExtends, UnitExtends, MeaningIsSteady, MeaningWaits};
+ghost use Rattle.t_meaning.specs.CostLaws.{UnmarkedTakesNoHeap};
 
 /// Where a unit has ended at a bound, every greater bound gives the same. Where it has not, a greater bound gives an output
 /// that this one's begins, and counts that are no less.
@@ -14,4 +16,24 @@ pub fn more_bound_keeps()
 /// Every unit ends at some bound.
 pub fn ends_at_some_bound()
     ensures { EndsAtSomeBound }
+{}
+
+/// A task only adds to the output and to the counters of heap, work and depth. One that isn't out of its bound gives the same at
+/// every greater bound, and one that is has no more output and no higher counters than at a greater bound.
+pub fn task_extends()
+    ensures adds { TaskOnlyAdds }
+    ensures extends { TaskExtends }
+{}
+
+/// A unit that isn't out of its bound gives the same at every greater bound. Where it is, its output begins the output at a
+/// greater bound, and its counters are no higher.
+pub fn unit_extends()
+    ensures outcome { UnitExtends }
+    ensures steady { MeaningIsSteady }
+    ensures waits { MeaningWaits }
+{}
+
+/// The evaluation of a LAMBDA that doesn't escape takes no heap.
+pub fn unmarked_takes_no_heap()
+    ensures { UnmarkedTakesNoHeap }
 {}
