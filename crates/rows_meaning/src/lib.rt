@@ -5,7 +5,7 @@
 ghost use Rattle.std.specs.Prelude.{[], ◌∷◌, ◌++◌, pos, codes};
 ghost use Rattle.program_runs.specs.Runs.{Value, Faulted, Fixnum, Character, EmptyList, Truth, Symbol, Kind};
 ghost use Rattle.t_base.specs.declared.faults.Fault.TheVariants.{NotProcedure, WrongCount, NotFixnum, NotPair, NotVector, IndexRange, FixnumOverflow, DivideByZero, Unbound, DeadEscape, NotHandled, NotChar, NotString, CharRange, User, NotSymbol};
-ghost use Rattle.rows_meaning.specs.Answers.{cost, Ends, EndsWith, none_escapes, IsOut};
+ghost use Rattle.rows_meaning.specs.Answers.{cost, Ends, EndsByMarks, IsOut};
 ghost use Rattle.rows_meaning.specs.BuiltinUnits.{add_nil, car_of_number, vref_of_number, vref_past_end, negative_vector, sum_too_large, quotient_too_large, divide_by_zero, code_of_number, length_of_number, char_past_end, name_of_number, user_fault, largest_sum, last_char, two_literals, one_literal, one_builtin, one_print_name, one_quoted_pair, two_closures, shown_char, shown_true, shown_symbol, shown_pair, shown_vector, shown_string, shown_builtin, shown_closure, shown_escape, shown_object, shown_operation};
 ghost use Rattle.rows_meaning.specs.CallUnits.{no_procedure, operator_first, too_many_operands, builtin_with_one, values_in_order, swap, upward, downward, tail_loop, deep_calls, if_at_top};
 ghost use Rattle.rows_meaning.specs.DefinitionUnits.{no_forms, procedure_form, operation_form, late_procedure, early_set, bump};
@@ -135,8 +135,15 @@ pub fn out_of_bound()
     ensures sum_too_large { IsOut sum_too_large 0 [] (cost 0 0 1) }
 {}
 
-/// A LAMBDA that isn't marked takes no heap.
-pub fn unmarked_lambdas()
-    ensures each_of_list { EndsWith none_escapes each_of_list 40 [] (Value (Fixnum (pos 36))) (cost 16 10 183) }
-    ensures upward { EndsWith none_escapes upward 20 [] (Value (Fixnum (pos 105))) (cost 0 3 29) }
+/// With the marks of the unit, a LAMBDA takes heap only where it escapes.
+pub fn heap_words_by_marks()
+    ensures each_of_list { EndsByMarks each_of_list 40 [] (Value (Fixnum (pos 36))) (cost 16 10 183) }
+    ensures each_in_tail_place { EndsByMarks each_in_tail_place 20 [] (Value (Fixnum (pos 6))) (cost 22 4 77) }
+    ensures upward { EndsByMarks upward 20 [] (Value (Fixnum (pos 105))) (cost 38 3 29) }
+    ensures downward { EndsByMarks downward 20 [] (Value (Fixnum (pos 32))) (cost 0 5 42) }
+    ensures tail_loop { EndsByMarks tail_loop 40 [] (Value (Fixnum (pos 10))) (cost 0 4 112) }
+    ensures deep_calls { EndsByMarks deep_calls 30 [] (Value (Fixnum (pos 5))) (cost 0 9 72) }
+    ensures past_a_procedure { EndsByMarks past_a_procedure 10 [] (Value (Fixnum (pos 1))) (cost 4 5 18) }
+    ensures two_closures { EndsByMarks two_closures 10 [] (Value EmptyList) (cost 28 4 12) }
+    ensures assigned_label { EndsByMarks assigned_label 10 [] (Value (Fixnum (pos 2))) (cost 14 4 7) }
 {}

@@ -8,6 +8,7 @@ use Rattle.t_core.specs.declared.forms.FormKind.TheVariants.{Define, Lset, Opera
 use Rattle.t_core.specs.declared.forms.Form.{Form}
 use Rattle.t_core.specs.declared.forms.UnitCore.{UnitCore}
 use Rattle.t_prim.specs.Values.{Val, NilV, SymbolV, ClosureV, first_store, shown_of}
+use Rattle.t_meaning.specs.Escape.{lambda_escapes}
 use Rattle.t_meaning.specs.Programs.{Marking, Program, all_escape}
 use Rattle.t_meaning.specs.State.{Procedure, State, with_closure, with_global_at, working}
 use Rattle.t_meaning.specs.Outcomes.{Outcome, Value, Escaping, Faulted, Out, Evaluate, with_value, or_unbound}
@@ -92,6 +93,10 @@ observed (Out s) = seen_at None s
 -- the run of a unit whose escaping LAMBDAs are those of the marking
 abbrev pub meaning : UnitCore → Marking → Run
 meaning unit escapes n = observed (outcome (record { unit = unit; escapes = escapes }) n)
+
+-- the run of a unit
+abbrev pub meaning_of : UnitCore → Run
+meaning_of unit = meaning unit (lambda_escapes unit)
 
 -- the run with every LAMBDA counted as escaping
 abbrev pub meaning_at_most : UnitCore → Run
