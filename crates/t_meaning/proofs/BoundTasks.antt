@@ -15,7 +15,7 @@ use Rattle.program_runs.specs.Follows.{Grows, IsSteady}
 use Rattle.t_prim.specs.Values.{Val, FixV, CharV, NilV, TrueV, SymbolV, StringV, PairV, VectorV, ClosureV, ObjectV, OperationV, BuiltinV, EscapeV}
 use Rattle.t_prim.specs.Table.{row}
 use Rattle.t_prim.proofs.RowLaws.{row_grows}
-use Rattle.t_meaning.specs.Programs.{Marking, Program, node_at}
+use Rattle.t_meaning.specs.Programs.{Marking, Program, marked, node_at}
 use Rattle.t_meaning.specs.Environment.{location_of}
 use Rattle.t_meaning.specs.State.{Procedure, Object, State, with_object, with_closure, with_global_at, working, entered}
 use Rattle.t_meaning.specs.Outcomes.{Outcome, Value, Escaping, Faulted, Out, Context, under, Task, Evaluate, Apply, Enter, Doing, after_row}
@@ -173,7 +173,7 @@ observed_below (Faulted s fault) q h = subst (λ r. SeenBelow (observed (Faulted
 observed_below (Out s) q h = out_below s q h
 
 meaning_below : (unit : UnitCore) (escapes : Marking) (n k : ℕ) → SeenBelow (meaning unit escapes n) (meaning unit escapes (n + k))
-meaning_below unit escapes n k = let p : Program = record { unit = unit; escapes = escapes } in observed_below (outcome p n) (outcome p (n + k)) (unit_extends p n k)
+meaning_below unit escapes n k = let p = marked unit escapes in observed_below (outcome p n) (outcome p (n + k)) (unit_extends p n k)
 
 pub meaning_is_steady : (unit : UnitCore) (escapes : Marking) → IsSteady (meaning unit escapes)
 meaning_is_steady unit escapes n k = (meaning_below unit escapes n k).grows

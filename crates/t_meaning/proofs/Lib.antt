@@ -8,3 +8,5 @@ pub mod EscapeCalled
 pub mod BoundLemmas
 pub mod BoundTasks
 pub mod CostLemmas
+pub mod CostRows
+pub mod CostTasks

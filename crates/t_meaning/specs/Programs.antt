@@ -15,5 +15,8 @@ pub record Program : Type 0 where
   pub unit : UnitCore
   pub escapes : Marking
 
+abbrev pub marked : UnitCore → Marking → Program
+marked unit escapes = record { unit = unit; escapes = escapes }
+
 abbrev pub node_at : UnitCore → ℕ → ℕ → Option Core
 node_at unit form node = option_and_then (λ f. slice_get f.nodes.items node) (slice_get unit.forms.items form)

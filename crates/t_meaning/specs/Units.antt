@@ -9,7 +9,7 @@ use Rattle.t_core.specs.declared.forms.Form.{Form}
 use Rattle.t_core.specs.declared.forms.UnitCore.{UnitCore}
 use Rattle.t_prim.specs.Values.{Val, NilV, SymbolV, ClosureV, first_store, shown_of}
 use Rattle.t_meaning.specs.Escape.{lambda_escapes}
-use Rattle.t_meaning.specs.Programs.{Marking, Program, all_escape}
+use Rattle.t_meaning.specs.Programs.{Marking, Program, marked, all_escape}
 use Rattle.t_meaning.specs.State.{Procedure, State, with_closure, with_global_at, working}
 use Rattle.t_meaning.specs.Outcomes.{Outcome, Value, Escaping, Faulted, Out, Evaluate, with_value, or_unbound}
 use Rattle.t_meaning.specs.Operations.{lambda_of}
@@ -92,7 +92,7 @@ observed (Out s) = seen_at None s
 
 -- the run of a unit whose escaping LAMBDAs are those of the marking
 abbrev pub meaning : UnitCore → Marking → Run
-meaning unit escapes n = observed (outcome (record { unit = unit; escapes = escapes }) n)
+meaning unit escapes n = observed (outcome (marked unit escapes) n)
 
 -- the run of a unit
 abbrev pub meaning_of : UnitCore → Run

@@ -4,7 +4,7 @@ pub mod escape;
 
 ghost use Rattle.t_meaning.specs.Laws.{MoreBoundKeeps, MoreBoundWaits, EndsAtSomeBound};
 ghost use Rattle.t_meaning.specs.BoundLaws.{TaskOnlyAdds, TaskExtends, UnitExtends, MeaningIsSteady, MeaningWaits};
-ghost use Rattle.t_meaning.specs.CostLaws.{UnmarkedTakesNoHeap};
+ghost use Rattle.t_meaning.specs.CostLaws.{UnmarkedTakesNoHeap, MarksChangeHeapAlone, MeaningIsAtMost};
 
 /// Where a unit has ended at a bound, every greater bound gives the same. Where it has not, a greater bound gives an output
 /// that this one's begins, and counts that are no less.
@@ -36,4 +36,11 @@ pub fn unit_extends()
 /// The evaluation of a LAMBDA that doesn't escape takes no heap.
 pub fn unmarked_takes_no_heap()
     ensures { UnmarkedTakesNoHeap }
+{}
+
+/// A marking that marks more changes nothing of what is seen but the words of heap, which are no fewer. So a unit costs no more than
+/// with every LAMBDA counted as escaping.
+pub fn marks_change_heap_alone()
+    ensures marks { MarksChangeHeapAlone }
+    ensures at_most { MeaningIsAtMost }
 {}
