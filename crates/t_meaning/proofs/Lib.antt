@@ -10,3 +10,4 @@ pub mod BoundTasks
 pub mod CostLemmas
 pub mod CostRows
 pub mod CostTasks
+pub mod CatchLemmas

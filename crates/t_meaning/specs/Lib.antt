@@ -19,3 +19,4 @@ pub mod Performing
 pub mod Units
 pub mod BoundLaws
 pub mod CostLaws
+pub mod CatchLaws

@@ -2,7 +2,6 @@
 use Rattle.std.specs.Prelude.{ℕ, suc, false, List, [], ◌∷◌, length, map, Option, Some, None, slice_get}
 use Rattle.program_runs.specs.Runs.{End, Observation, Run}
 use Rattle.program_runs.specs.Runs as runs
-use Rattle.t_base.specs.declared.faults.Fault.TheVariants.{DeadEscape}
 use Rattle.t_core.specs.declared.forms.FormKind.{FormKind}
 use Rattle.t_core.specs.declared.forms.FormKind.TheVariants.{Define, Lset, Operation, Plain}
 use Rattle.t_core.specs.declared.forms.Form.{Form}
@@ -83,10 +82,10 @@ outcome p n = run_forms p n 0 p.unit.forms.items (start p.unit) NilV
 abbrev pub seen_at : Option End → State → Observation
 seen_at end s = record { output = s.store.output; end = end; heap = s.store.heap; stack = 0; waiting = s.deepest; moves = s.work }
 
--- an escape never leaves a form, since its catch is live no longer than the CATCH is evaluated; it would be a dead one
+-- an escape never leaves a unit, since it is taken only while its CATCH is evaluated
 abbrev pub observed : Outcome → Observation
 observed (Value s v) = seen_at (Some (runs.Value (shown_of s.store v))) s
-observed (Escaping s i v) = seen_at (Some (runs.Faulted DeadEscape)) s
+observed (Escaping s i v) = seen_at (Some runs.Broken) s
 observed (Faulted s fault) = seen_at (Some (runs.Faulted fault)) s
 observed (Out s) = seen_at None s
 

@@ -4,6 +4,7 @@ pub mod escape;
 
 ghost use Rattle.t_meaning.specs.Laws.{MoreBoundKeeps, MoreBoundWaits, EndsAtSomeBound};
 ghost use Rattle.t_meaning.specs.BoundLaws.{TaskOnlyAdds, TaskExtends, UnitExtends, MeaningIsSteady, MeaningWaits};
+ghost use Rattle.t_meaning.specs.CatchLaws.{TasksStayInside, UnitStaysInside, EndsAreProper};
 ghost use Rattle.t_meaning.specs.CostLaws.{UnmarkedTakesNoHeap, MarksChangeHeapAlone, MeaningIsAtMost};
 
 /// Where a unit has ended at a bound, every greater bound gives the same. Where it has not, a greater bound gives an output
@@ -31,6 +32,14 @@ pub fn unit_extends()
     ensures outcome { UnitExtends }
     ensures steady { MeaningIsSteady }
     ensures waits { MeaningWaits }
+{}
+
+/// A task that gives a value leaves the same catches live, and an escape that leaves a task goes to a catch that was live before it.
+/// So no escape leaves a unit, and a unit ends by a value or a fault alone.
+pub fn escapes_stay_inside()
+    ensures tasks { TasksStayInside }
+    ensures units { UnitStaysInside }
+    ensures proper { EndsAreProper }
 {}
 
 /// The evaluation of a LAMBDA that doesn't escape takes no heap.
