@@ -11,3 +11,4 @@ pub mod CostLemmas
 pub mod CostRows
 pub mod CostTasks
 pub mod CatchLemmas
+pub mod SumUnits
