@@ -26,6 +26,30 @@ procedure_form alloc = record {
       []) refl;
 }
 
+-- (define x (+ 1 2))
+abbrev pub value_form : Global → UnitCore
+value_form alloc = record {
+  shared = record (bare alloc 4) {
+    names = first_names ++ codes "x" ∷ [];
+    globals = vec_of alloc (global 3 Value ∷ []) refl;
+  };
+  forms = vec_of alloc (
+      define alloc 0 (fix 1 ∷ fix 2 ∷ Node.Prim Add (0 ∷ 1 ∷ []) ∷ []) refl ∷
+      []) refl;
+}
+
+-- (lset x 1)
+abbrev pub variable_form : Global → UnitCore
+variable_form alloc = record {
+  shared = record (bare alloc 2) {
+    names = first_names ++ codes "x" ∷ [];
+    globals = vec_of alloc (global 3 Variable ∷ []) refl;
+  };
+  forms = vec_of alloc (
+      lset alloc 0 (fix 1 ∷ []) refl ∷
+      []) refl;
+}
+
 -- (define-operation (area s) 0)
 abbrev pub operation_form : Global → UnitCore
 operation_form alloc = record {

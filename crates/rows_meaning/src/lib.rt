@@ -8,7 +8,7 @@ ghost use Rattle.t_base.specs.declared.faults.Fault.TheVariants.{NotProcedure, W
 ghost use Rattle.rows_meaning.specs.Answers.{cost, Ends, EndsByMarks, IsOut};
 ghost use Rattle.rows_meaning.specs.BuiltinUnits.{add_nil, car_of_number, vref_of_number, vref_past_end, negative_vector, sum_too_large, quotient_too_large, divide_by_zero, code_of_number, length_of_number, char_past_end, name_of_number, user_fault, largest_sum, last_char, two_literals, one_literal, one_builtin, one_print_name, one_quoted_pair, two_closures, shown_char, shown_true, shown_symbol, shown_pair, shown_vector, shown_string, shown_builtin, shown_closure, shown_escape, shown_object, shown_operation};
 ghost use Rattle.rows_meaning.specs.CallUnits.{no_procedure, operator_first, too_many_operands, builtin_with_one, values_in_order, swap, upward, downward, tail_loop, deep_calls, if_at_top};
-ghost use Rattle.rows_meaning.specs.DefinitionUnits.{no_forms, procedure_form, operation_form, late_procedure, early_set, bump};
+ghost use Rattle.rows_meaning.specs.DefinitionUnits.{no_forms, procedure_form, value_form, variable_form, operation_form, late_procedure, early_set, bump};
 ghost use Rattle.rows_meaning.specs.CatchUnits.{through_inner_catch, past_a_procedure, dead_escape, dead_inner_escape, dead_escape_with_two};
 ghost use Rattle.rows_meaning.specs.ObjectUnits.{areas, settable, locative_once, first_method, default_behind_methods, no_operands, method_with_two, default_with_two, no_procedure_part};
 ghost use Rattle.rows_meaning.specs.CostUnits.{pair_and_vectors, assigned_binding, assigned_parameter, assigned_label, assigned_escape, each_of_list, each_in_tail_place};
@@ -83,6 +83,8 @@ pub fn depth_and_work()
 pub fn definitions()
     ensures no_forms { Ends no_forms 10 [] (Value EmptyList) (cost 0 0 0) }
     ensures procedure_form { Ends procedure_form 10 [] (Value (Symbol (codes "f"))) (cost 0 0 1) }
+    ensures value_form { Ends value_form 10 [] (Value (Symbol (codes "x"))) (cost 0 2 4) }
+    ensures variable_form { Ends variable_form 10 [] (Value (Symbol (codes "x"))) (cost 0 1 2) }
     ensures operation_form { Ends operation_form 10 [] (Value (Symbol (codes "area"))) (cost 0 0 1) }
     ensures late_procedure { Ends late_procedure 10 (codes "7") (Faulted Unbound) (cost 0 3 13) }
     ensures early_set { Ends early_set 10 (codes "1") (Faulted Unbound) (cost 0 4 10) }
