@@ -1,0 +1,32 @@
+-- What the check of a finished unit tells: all that a whole unit is, but that variables are used where they are bound.
+use Rattle.std.specs.Prelude.{◌≢◌, ◌≤◌, ◌^◌, List, [], ◌∷◌, ◌++◌, All, AllPairs, ℕ}
+use Rattle.std.specs.List.{flat_map}
+use Rattle.t_base.specs.declared.shared_parts.Const.{Const}
+use Rattle.t_base.specs.declared.shared_parts.Const.TheVariants as Constant
+use Rattle.t_core.specs.declared.forms.Core.{Core}
+use Rattle.t_core.specs.declared.forms.Core.TheVariants as Node
+use Rattle.t_core.specs.declared.forms.UnitCore.{UnitCore}
+use Rattle.t_core.specs.Counts.{bulk_of}
+use Rattle.t_core.specs.Whole.{HasPlaces, binders, HasShapes, HasDefinitions, HasSharedParts}
+
+-- the places of string literals that a constant names, and a node
+abbrev pub string_in : Const → List ℕ
+string_in (Constant.Str k) = k ∷ []
+string_in _ = []
+
+abbrev pub string_of : Core → List ℕ
+string_of (Node.Const c) = string_in c
+string_of _ = []
+
+-- the places of string literals that pairs and nodes name
+abbrev pub named_strings : UnitCore → List ℕ
+named_strings unit = flat_map (λ p. string_in p.0 ++ string_in p.1) unit.shared.pairs.items ++ flat_map (λ form. flat_map string_of form.nodes.items) unit.forms.items
+
+pub record IsSound (unit : UnitCore) : Type 0 where
+  pub places : All (HasPlaces unit.shared) unit.forms.items
+  pub bound_once : AllPairs (λ v w. v ≢ w) (binders unit)
+  pub shapes : All (HasShapes unit.shared) unit.forms.items
+  pub definitions : HasDefinitions unit
+  pub shared : HasSharedParts unit
+  pub strings_once : AllPairs (λ k l. k ≢ l) (named_strings unit)
+  pub few : bulk_of unit ≤ 2 ^ 31
