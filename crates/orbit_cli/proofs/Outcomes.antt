@@ -6,8 +6,6 @@ use Rattle.t_ports.specs.declared.ports.Sink.{Ghosts as SinkOf}
 use Rattle.t_ports.specs.Causes.{Rose}
 use Rattle.t_ports.specs.Files.{Files, IfBothTold, IsSame, Puts}
 use Rattle.program_runs.specs.Runs.{Broken}
-use Rattle.m68020_step.specs.declared.machine.Sizes.{Sizes}
-use Rattle.m68020_step.specs.Boot.{is_size}
 use Rattle.image_file.specs.Grammar.{Parts, IsImageOf}
 use Rattle.image_file.proofs.Laws.{one_image}
 use Rattle.orbit_build.specs.Faithful.{Faithful, KeepsMeaning}
@@ -15,16 +13,16 @@ use Rattle.orbit_monitor.specs.declared.end.Exit.{Exit}
 use Rattle.orbit_monitor.specs.declared.end.Exit.TheVariants as exit
 use Rattle.orbit_monitor.specs.Run.{run}
 use Rattle.orbit_monitor.specs.Observed.{end_of}
-use Rattle.orbit_monitor.specs.Answering.{Loaded, run_on}
+use Rattle.orbit_monitor.specs.Answering.{Loaded}
 use Rattle.orbit_cli.specs.declared.words.Bounds.{Bounds}
 use Rattle.orbit_cli.specs.declared.status.Status.{Status}
 use Rattle.orbit_cli.specs.declared.status.Status.TheVariants as status
 use Rattle.orbit_cli.specs.declared.refusal.Refusal.{Refusal}
 use Rattle.orbit_cli.specs.declared.refusal.Refusal.TheVariants as refusal
 use Rattle.orbit_cli.specs.Answer.{Answer, answer, answer_on, listing_answer, printed, end_status, full_status}
-use Rattle.orbit_cli.specs.Changes.{Change, change, IsIdle, Says, FetchFailed, KeepFailed, IsUnchanged, Keeps, GivesSuch}
+use Rattle.orbit_cli.specs.Changes.{Change, change, IsIdle, Says, IsUnchanged, Keeps}
 use Rattle.orbit_cli.specs.Command.{AreSizes}
-use Rattle.orbit_cli.specs.Outcome.{most_text, HasImage, IsRefused, ImageRefused, IsCompiled, CompileOutcome, CheckOutcome, IsAnswered, IsUnwritten, IsRun, RunOutcome, ListOutcome, IsGone, GoOutcome, OfText}
+use Rattle.orbit_cli.specs.Outcome.{IsCompiled, CompileOutcome, CheckOutcome, IsAnswered, IsUnwritten, IsRun, RunOutcome, ListOutcome, IsGone, GoOutcome}
 use Rattle.orbit_cli.specs.Parts.{refusal_line, refusal_status, CompileCause, CheckCause, ImageCause, KeepCause, IsTranslated, IsFetchedProgram, IsFetchedListing, IsProgram, Reports}
 
 -- ---- folders

@@ -97,8 +97,11 @@ module _ {S E : Type 0} (o : SinkOf S) (e : SinkOf E) where
         subst (λ (a : Answer). Reports o e (change old new) err a ended) whole
         (⊎_elim
         (λ a. inl (record { printed = both old mid new put line t a.printed; noted = a.noted; silent = a.silent; status_is = a.status_is }))
-        (λ u. inr (record {
-          cut = record { failed = rose_from (o.faults old) (o.faults mid) (o.faults new) later u.0.cut.failed; front = line_cut_off put line t u.0.cut.front };
-          noted = u.0.noted;
-        }, u.1))
+        (λ u. inr (
+          record {
+            cut = record { failed = rose_from (o.faults old) (o.faults mid) (o.faults new) later u.0.cut.failed; front = line_cut_off put line t u.0.cut.front };
+            noted = u.0.noted;
+          },
+          u.1,
+        ))
         h)

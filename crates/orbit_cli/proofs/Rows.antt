@@ -1,5 +1,5 @@
 -- Words of other numbers than those of the rows are no command.
-use Rattle.std.proofs.Common.{◌≡◌, ℕ, ◌<◌, List, [], ◌∷◌, map, length, None, String, Global, refl, arith}
+use Rattle.std.proofs.Common.{◌≡◌, ◌<◌, List, [], ◌∷◌, map, length, None, String, Global, refl, arith}
 use Rattle.std.specs.String.{string_bytes}
 use Rattle.orbit_cli.specs.Words.{command_of}
 

@@ -7,6 +7,14 @@ use std::test::Fail;
 use t_ports::memory::{MemFolder, MemSink};
 use t_ports::ports::Folder;
 
+/// What is put out and noted, and the status.
+#[derive(Clone, Copy)]
+pub struct Seen {
+    pub out: &'static [u8],
+    pub err: &'static [u8],
+    pub status: Status,
+}
+
 /// A text that is compiled and run, and what is expected.
 #[derive(Clone, Copy)]
 pub struct Row {
@@ -28,6 +36,38 @@ pub fn words_of(alloc: Global, words: &[&str]) -> Result<Vec<String>, Fail> {
 /// A sink with ample room.
 pub fn sink(alloc: Global) -> Result<MemSink, Fail> {
     Ok(MemSink::new(alloc, 1000, Vec::new(alloc))?)
+}
+
+/// A folder with one file, whose calls with these numbers fail.
+pub fn folder_of(alloc: Global, name: &str, bytes: &[u8], fail: &[u32]) -> Result<MemFolder, Fail> {
+    let mut folder = MemFolder::new(alloc, fail.to_vec(alloc)?);
+    folder.add(name, bytes)?;
+    Ok(folder)
+}
+
+/// Does a command over the folder.
+pub fn check_over<F: Folder>(
+    rt: &impl Abort,
+    alloc: Global,
+    words: &[&str],
+    folder: &mut F,
+    out: &mut MemSink,
+    seen: Seen,
+) -> Result<(), Fail> {
+    let mut err = sink(alloc)?;
+    let status = orbit(alloc, &words_of(alloc, words)?, folder, out, &mut err);
+    assert_eq!(rt; out.bytes(), seen.out);
+    assert_eq!(rt; err.bytes(), seen.err);
+    assert_eq!(rt; status, seen.status);
+    Ok(())
+}
+
+/// Whether the folder holds these bytes under the name.
+pub fn holds(alloc: Global, folder: &mut MemFolder, name: &str, bytes: &[u8]) -> bool {
+    match folder.fetch(alloc, name, 1 << 29) {
+        Ok(held) => held.as_slice() == bytes,
+        Err(_) => false,
+    }
 }
 
 /// Whether the folder holds an image under the name that the rows give it.

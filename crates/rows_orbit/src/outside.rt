@@ -1,17 +1,11 @@
 //! A folder and a sink that fail.
 
-use crate::calls::{has_image, sink, words_of};
+use crate::calls::{Seen, check_over, folder_of, has_image, sink, words_of};
 use orbit_cli::{Status, orbit};
 use std::alloc::Global;
 use std::process::Abort;
 use std::test::Fail;
-use t_ports::memory::{MemFolder, MemSink};
-
-fn folder_of(alloc: Global, text: &[u8], fail: &[u32]) -> Result<MemFolder, Fail> {
-    let mut folder = MemFolder::new(alloc, fail.to_vec(alloc)?);
-    folder.add("a.t", text)?;
-    Ok(folder)
-}
+use t_ports::memory::MemSink;
 
 fn words(alloc: Global, src: &str) -> Result<Vec<String>, Fail> {
     words_of(alloc, &["go", src, "a.img", "64", "64", "1000"])
@@ -20,7 +14,7 @@ fn words(alloc: Global, src: &str) -> Result<Vec<String>, Fail> {
 #[test]
 fn a_text_that_is_not_there(rt: HostRuntime) -> Result<(), Fail> {
     let alloc = rt.alloc();
-    let mut folder = folder_of(alloc, b"(+ 40 2)", &[])?;
+    let mut folder = folder_of(alloc, "a.t", b"(+ 40 2)", &[])?;
     let mut out = sink(alloc)?;
     let mut err = sink(alloc)?;
     let status = orbit(
@@ -40,7 +34,7 @@ fn a_text_that_is_not_there(rt: HostRuntime) -> Result<(), Fail> {
 #[test]
 fn an_image_that_is_not_kept(rt: HostRuntime) -> Result<(), Fail> {
     let alloc = rt.alloc();
-    let mut folder = folder_of(alloc, b"(+ 536870910 1)", &[2])?;
+    let mut folder = folder_of(alloc, "a.t", b"(+ 536870910 1)", &[2])?;
     let mut out = sink(alloc)?;
     let mut err = sink(alloc)?;
     let status = orbit(
@@ -61,7 +55,7 @@ fn an_image_that_is_not_kept(rt: HostRuntime) -> Result<(), Fail> {
 fn a_text_that_is_too_long(rt: HostRuntime) -> Result<(), Fail> {
     let alloc = rt.alloc();
     let blanks = vec![in alloc; b' '; 0x10_0001]?;
-    let mut folder = folder_of(alloc, &blanks, &[])?;
+    let mut folder = folder_of(alloc, "a.t", &blanks, &[])?;
     let mut out = sink(alloc)?;
     let mut err = sink(alloc)?;
     let status = orbit(
@@ -82,7 +76,7 @@ fn a_text_that_is_too_long(rt: HostRuntime) -> Result<(), Fail> {
 static ROOMS: [(usize, &[u8]); 3] = [(0, b""), (3, b"val"), (8, b"value 42")];
 
 fn check_room(rt: &impl Abort, alloc: Global, room: usize, held: &[u8]) -> Result<(), Fail> {
-    let mut folder = folder_of(alloc, b"(+ 40 2)", &[])?;
+    let mut folder = folder_of(alloc, "a.t", b"(+ 40 2)", &[])?;
     let mut out = MemSink::new(alloc, room, Vec::new(alloc))?;
     let mut err = sink(alloc)?;
     let status = orbit(
@@ -110,7 +104,7 @@ fn output_that_is_not_written(rt: HostRuntime) -> Result<(), Fail> {
 #[test]
 fn an_error_that_is_not_written_changes_no_status(rt: HostRuntime) -> Result<(), Fail> {
     let alloc = rt.alloc();
-    let mut folder = folder_of(alloc, b"(- 1 2)", &[])?;
+    let mut folder = folder_of(alloc, "a.t", b"(- 1 2)", &[])?;
     let mut out = sink(alloc)?;
     let mut err = MemSink::new(alloc, 0, Vec::new(alloc))?;
     let status = orbit(
@@ -122,5 +116,29 @@ fn an_error_that_is_not_written_changes_no_status(rt: HostRuntime) -> Result<(),
     );
     assert_eq!(rt; status, Status::Unbuilt);
     assert_eq!(rt; err.bytes(), b"".as_slice());
+    Ok(())
+}
+
+/// The words of each command on a file `a`.
+static COMMANDS: [&[&str]; 5] = [
+    &["compile", "a", "b"],
+    &["run", "a", "64", "64", "3"],
+    &["go", "a", "b", "64", "64", "3"],
+    &["check", "a"],
+    &["list", "a"],
+];
+
+#[test]
+fn a_fetch_that_fails(rt: HostRuntime) -> Result<(), Fail> {
+    let alloc = rt.alloc();
+    let seen = Seen {
+        out: b"",
+        err: b"cannot read: a\n",
+        status: Status::FetchFault,
+    };
+    for words in COMMANDS {
+        let mut folder = folder_of(alloc, "a", b"5", &[1])?;
+        check_over(&rt, alloc, words, &mut folder, &mut sink(alloc)?, seen)?;
+    }
     Ok(())
 }

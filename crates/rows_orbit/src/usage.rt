@@ -65,3 +65,27 @@ fn words_that_are_no_row(rt: HostRuntime) -> Result<(), Fail> {
     check_usage(&rt, rt.alloc(), &["trial", "1", "2", "3"])?;
     Ok(())
 }
+
+/// Words that begin with the name of a command and are no row of the table.
+static OTHER_COUNTS: [&[&str]; 12] = [
+    &["compile"],
+    &["compile", "a.t"],
+    &["compile", "a.t", "a.img", "64"],
+    &["Compile", "a.t", "a.img"],
+    &["check"],
+    &["check", "a.t", "a.img"],
+    &["list"],
+    &["list", "a.t", "a.img"],
+    &["run", "a.t"],
+    &["run", "a.t", "64", "64"],
+    &["run", "a.t", "63", "64", "3"],
+    &["run", "a.t", "64", "64", "1099511627777"],
+];
+
+#[test]
+fn commands_with_other_words(rt: HostRuntime) -> Result<(), Fail> {
+    for words in OTHER_COUNTS {
+        check_usage(&rt, rt.alloc(), words)?;
+    }
+    Ok(())
+}

@@ -9,11 +9,11 @@ use Rattle.orbit_cli.proofs.prepare.judge.Goals as goal
 pub returns : goal.returns
 returns c =
     elim c.match-read_unit.branch [
-      in-Ok w ↦
-        let unit = w.in-Ok.ensures.data in
-        subst (λ (r : Refusal). TextCause HasReading c.args.text.now r) (sym w.result-is) (trees c.args.text.now unit.forms, record { forms = unit.forms; written = unit.written; data_are = refl })
+      | in-Ok w ↦
+          let unit = w.in-Ok.ensures.data in
+          subst (λ (r : Refusal). TextCause HasReading c.args.text.now r) (sym w.result-is) (trees c.args.text.now unit.forms, record { forms = unit.forms; written = unit.written; data_are = refl })
       | in-Err-Fault w ↦
-        subst (λ (r : Refusal). TextCause HasReading c.args.text.now r) (sym (w.result-is ∙ w.source_refusal.ensures))
-        (record { span = w.in-Err-Fault.span; first = w.in-Err-Fault.ensures.fault w.in-Err-Fault.kind w.in-Err-Fault.span (ap Err w.in-Err-Fault.field-0-is); line_is = refl; column_is = refl })
+          subst (λ (r : Refusal). TextCause HasReading c.args.text.now r) (sym (w.result-is ∙ w.source_refusal.ensures))
+          (record { span = w.in-Err-Fault.span; first = w.in-Err-Fault.ensures.fault w.in-Err-Fault.kind w.in-Err-Fault.span (ap Err w.in-Err-Fault.field-0-is); line_is = refl; column_is = refl })
       | in-Err-Memory w ↦ subst (λ (r : Refusal). TextCause HasReading c.args.text.now r) (sym w.result-is) tt
     ]
