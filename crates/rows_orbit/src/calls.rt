@@ -15,6 +15,15 @@ pub struct Seen {
     pub status: Status,
 }
 
+/// `out` took this, and then a put to it or to the folder failed.
+pub fn unwritten(out: &'static [u8]) -> Seen {
+    Seen {
+        out,
+        err: b"cannot write\n",
+        status: Status::WriteFault,
+    }
+}
+
 /// A text that is compiled and run, and what is expected.
 #[derive(Clone, Copy)]
 pub struct Row {
@@ -77,15 +86,14 @@ pub fn has_image(alloc: Global, folder: &mut MemFolder) -> bool {
 
 /// Compiles and runs the text of a row with heap 64 and stack 64.
 pub fn check(rt: &impl Abort, alloc: Global, row: Row, kept: bool) -> Result<(), Fail> {
-    let mut folder = MemFolder::new(alloc, Vec::new(alloc));
-    folder.add("a.t", row.text)?;
-    let mut out = sink(alloc)?;
-    let mut err = sink(alloc)?;
-    let words = words_of(alloc, &["go", "a.t", "a.img", "64", "64", row.steps])?;
-    let status = orbit(alloc, &words, &mut folder, &mut out, &mut err);
-    assert_eq!(rt; out.bytes(), row.out);
-    assert_eq!(rt; err.bytes(), row.err);
-    assert_eq!(rt; status, row.status);
+    let mut folder = folder_of(alloc, "a.t", row.text, &[])?;
+    let words = ["go", "a.t", "a.img", "64", "64", row.steps];
+    let seen = Seen {
+        out: row.out,
+        err: row.err,
+        status: row.status,
+    };
+    check_over(rt, alloc, &words, &mut folder, &mut sink(alloc)?, seen)?;
     assert_eq!(rt; has_image(alloc, &mut folder), kept);
     Ok(())
 }

@@ -1,11 +1,11 @@
 //! Texts that are compiled without a run, and texts that are checked.
 
-use crate::calls::{Seen, check_over, folder_of, has_image, holds, sink};
+use crate::calls::{Seen, check_over, folder_of, has_image, holds, sink, unwritten};
 use orbit_cli::Status;
 use std::alloc::Global;
 use std::process::Abort;
 use std::test::Fail;
-use t_ports::memory::{MemFolder, MemSink};
+use t_ports::memory::MemFolder;
 
 fn check(
     rt: &impl Abort,
@@ -58,36 +58,17 @@ fn an_image_that_is_not_kept(rt: HostRuntime) -> Result<(), Fail> {
     let alloc = rt.alloc();
     let mut folder = folder_of(alloc, "a.t", b"+5", &[2])?;
     let words = ["compile", "a.t", "a.img"];
-    check(
+    check_over(
         &rt,
         alloc,
         &words,
         &mut folder,
-        b"cannot write\n",
-        Status::WriteFault,
+        &mut sink(alloc)?,
+        unwritten(b""),
     )?;
     assert_eq!(rt; has_image(alloc, &mut folder), false);
     assert_eq!(rt; holds(alloc, &mut folder, "a.t", b"+5"), true);
     Ok(())
-}
-
-#[test]
-fn a_text_that_is_too_long(rt: HostRuntime) -> Result<(), Fail> {
-    let alloc = rt.alloc();
-    let blanks = vec![in alloc; b' '; 0x10_0001]?;
-    let mut folder = folder_of(alloc, "a.t", &blanks, &[])?;
-    let line = b"too long: a.t\n";
-    let compile = ["compile", "a.t", "a.img"];
-    check(&rt, alloc, &compile, &mut folder, line, Status::LongFile)?;
-    assert_eq!(rt; has_image(alloc, &mut folder), false);
-    check(
-        &rt,
-        alloc,
-        &["check", "a.t"],
-        &mut folder,
-        line,
-        Status::LongFile,
-    )
 }
 
 /// Texts with a fault of the grammar, and the line of each.
@@ -131,55 +112,23 @@ fn four_hundred_and_one_open_parentheses(rt: HostRuntime) -> Result<(), Fail> {
     check_refused(&rt, alloc, &text, b"a.t:1:401: R8 TooDeep\n")
 }
 
-/// Texts without a fault of the grammar.
-static UNCHECKED: [&[u8]; 4] = [b"", b"(+ 40 2)", b"(if)", b"; nothing\n"];
+/// The words of a command on a text that has no answer yet, and the text.
+static UNBUILT: [(&[&str], &[u8]); 5] = [
+    (&["check", "a.t"], b""),
+    (&["check", "a.t"], b"(+ 40 2)"),
+    (&["check", "a.t"], b"(if)"),
+    (&["check", "a.t"], b"; nothing\n"),
+    (&["compile", "a.t", "a.img"], b"(- 1 2)"),
+];
 
 #[test]
-fn texts_that_are_not_checked_yet(rt: HostRuntime) -> Result<(), Fail> {
+fn texts_that_have_no_answer_yet(rt: HostRuntime) -> Result<(), Fail> {
     let alloc = rt.alloc();
-    for text in UNCHECKED {
+    let line = b"not built yet\n";
+    for (words, text) in UNBUILT {
         let mut folder = folder_of(alloc, "a.t", text, &[])?;
-        check(
-            &rt,
-            alloc,
-            &["check", "a.t"],
-            &mut folder,
-            b"not built yet\n",
-            Status::Unbuilt,
-        )?;
+        check(&rt, alloc, words, &mut folder, line, Status::Unbuilt)?;
+        assert_eq!(rt; has_image(alloc, &mut folder), false);
     }
-    Ok(())
-}
-
-#[test]
-fn a_text_that_is_not_built_yet(rt: HostRuntime) -> Result<(), Fail> {
-    let alloc = rt.alloc();
-    let mut folder = folder_of(alloc, "a.t", b"(- 1 2)", &[])?;
-    let words = ["compile", "a.t", "a.img"];
-    check(
-        &rt,
-        alloc,
-        &words,
-        &mut folder,
-        b"not built yet\n",
-        Status::Unbuilt,
-    )?;
-    assert_eq!(rt; has_image(alloc, &mut folder), false);
-    Ok(())
-}
-
-#[test]
-fn a_comment_behind_a_sum(rt: HostRuntime) -> Result<(), Fail> {
-    let alloc = rt.alloc();
-    let mut folder = folder_of(alloc, "a.t", b"(+ 40 2) ; sum", &[])?;
-    let mut out = MemSink::new(alloc, 3, Vec::new(alloc))?;
-    let seen = Seen {
-        out: b"val",
-        err: b"cannot write\n",
-        status: Status::WriteFault,
-    };
-    let words = ["go", "a.t", "a.img", "64", "1024", "1099511627776"];
-    check_over(&rt, alloc, &words, &mut folder, &mut out, seen)?;
-    assert_eq!(rt; has_image(alloc, &mut folder), true);
     Ok(())
 }

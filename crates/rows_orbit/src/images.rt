@@ -1,6 +1,6 @@
 //! Images that are run, and bytes that are none.
 
-use crate::calls::{Seen, sink};
+use crate::calls::{Seen, unwritten};
 use crate::inspections::{SEVEN, check, check_on, done, image_of, refused};
 use orbit_cli::Status;
 use std::alloc::Global;
@@ -201,28 +201,11 @@ fn an_image_that_is_not_there(rt: HostRuntime) -> Result<(), Fail> {
 }
 
 #[test]
-fn out_without_room(rt: HostRuntime) -> Result<(), Fail> {
+fn a_listing_without_room(rt: HostRuntime) -> Result<(), Fail> {
     let alloc = rt.alloc();
-    let listed = Seen {
-        out: b"00010000  701C",
-        err: b"cannot write\n",
-        status: Status::WriteFault,
-    };
-    let ran = Seen {
-        out: b"7\nva",
-        ..listed
-    };
     let mut out = MemSink::new(alloc, 14, Vec::new(alloc))?;
-    check_on(&rt, alloc, SEVEN, &["list", "m0"], &mut out, listed)?;
-    let mut out = MemSink::new(alloc, 4, Vec::new(alloc))?;
-    check_on(
-        &rt,
-        alloc,
-        SEVEN,
-        &["run", "m0", "64", "64", "3"],
-        &mut out,
-        ran,
-    )
+    let listed = unwritten(b"00010000  701C");
+    check_on(&rt, alloc, SEVEN, &["list", "m0"], &mut out, listed)
 }
 
 /// Code that puts -32, 31 and 7 and halts with 7.
@@ -241,14 +224,6 @@ static FAILED_PUTS: [(u32, u32, &[u8]); 9] = [
     (1, 3, b"-32317"),
     (0, 4, b"-32317"),
 ];
-
-fn unwritten(out: &'static [u8]) -> Seen {
-    Seen {
-        out,
-        err: b"cannot write\n",
-        status: Status::WriteFault,
-    }
-}
 
 #[test]
 fn each_put_that_fails(rt: HostRuntime) -> Result<(), Fail> {
