@@ -3,7 +3,7 @@ use Rattle.std.specs.Prelude.{IfErr, OnErr}
 use Rattle.std.proofs.lemmas.List.{take-append-drop}
 use Rattle.t_ports.specs.declared.ports.Failed.{Failed}
 use Rattle.t_ports.specs.Pieces.{TookFront}
-use Rattle.orbit_cli.proofs.inspect.put_text.Goals as goal
+use Rattle.orbit_cli.proofs.report.put_text.Goals as goal
 
 -- where the put failed, the first bytes are a front
 cut : {S T : Type 0} (took : S → List ℕ → S → Type 0) (old new : S) (text : List ℕ) (r : Result T Failed) → IfErr r (λ e. (e.taken ≤ length text) × took old (take e.taken text) new) → OnErr r (TookFront took old text new)
