@@ -232,7 +232,7 @@ fn each_put_that_fails(rt: HostRuntime) -> Result<(), Fail> {
     let words = ["run", "m0", "64", "64", "7"];
     check(&rt, alloc, &image, &words, done(b"-32317\nvalue 7\n"))?;
     for (taken, call, held) in FAILED_PUTS {
-        let fail = Vec::from_slice(alloc, &[(taken, call)])?;
+        let fail = Vec::from_slice(alloc, &[(call, taken)])?;
         let mut out = MemSink::new(alloc, 1000, fail)?;
         check_on(&rt, alloc, &image, &words, &mut out, unwritten(held))?;
     }
