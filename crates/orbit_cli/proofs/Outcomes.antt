@@ -22,7 +22,7 @@ use Rattle.orbit_cli.specs.declared.refusal.Refusal.TheVariants as refusal
 use Rattle.orbit_cli.specs.Answer.{Answer, answer, answer_on, listing_answer, printed, end_status, full_status}
 use Rattle.orbit_cli.specs.Changes.{Change, change, IsIdle, Says, IsUnchanged, Keeps}
 use Rattle.orbit_cli.specs.Command.{AreSizes}
-use Rattle.orbit_cli.specs.Outcome.{IsCompiled, CompileOutcome, CheckOutcome, IsAnswered, IsUnwritten, IsRun, RunOutcome, ListOutcome, IsGone, GoOutcome}
+use Rattle.orbit_cli.specs.Outcome.{IsCompiled, CompileOutcome, CheckOutcome, IsAnswered, IsUnwritten, IsRun, RunOutcome, ListOutcome, IsKeptAndRun, GoOutcome}
 use Rattle.orbit_cli.specs.Parts.{refusal_line, refusal_status, CompileCause, CheckCause, ImageCause, KeepCause, IsTranslated, IsFetchedProgram, IsFetchedListing, IsProgram, Reports}
 
 -- ---- folders
@@ -213,8 +213,8 @@ module _ {F S E : Type 0} (f : FolderOf F) (o : SinkOf S) (e : SinkOf E) (folder
       go_answer_is : answer_on loaded bounds.steps ≡ answer h.image bounds.sizes bounds.steps
       go_answer_is = ap (λ (l : Loaded). answer_on l bounds.steps) h.fresh_is
 
-      gone : (ended : Status) → IsAnswered o e out err (answer h.image bounds.sizes bounds.steps) ended → IsGone f o e folder out err src img bounds ended
-      gone ended a = record { bytes = bytes; image = h.image; compiled = compiled; spelled = h.spelled; due = a }
+      kept_and_ran : (ended : Status) → IsAnswered o e out err (answer h.image bounds.sizes bounds.steps) ended → IsKeptAndRun f o e folder out err src img bounds ended
+      kept_and_ran ended a = record { bytes = bytes; image = h.image; compiled = compiled; spelled = h.spelled; due = a }
 
       go_cut : IsUnwritten o e out err (answer h.image bounds.sizes bounds.steps) → GoOutcome f o e folder out err src img bounds status.WriteFault
       go_cut u = inl (record { bytes = bytes; image = h.image; compiled = compiled; spelled = h.spelled; due = u })
@@ -228,6 +228,6 @@ module _ {F S E : Type 0} (f : FolderOf F) (o : SinkOf S) (e : SinkOf E) (folder
       pub went : (ended : Status) → Reports o e out err (answer_on loaded bounds.steps) ended → GoOutcome f o e folder out err src img bounds ended
       went ended r =
           ⊎_elim
-          (λ a. subst GoesTo a.status_is (by_end GoesTo (gone status.Done) (gone status.SourceFault) (gone status.HeapFull) (gone status.StackFull) (gone status.StepLimit) stopped (run h.image bounds.sizes bounds.steps).end) a)
+          (λ a. subst GoesTo a.status_is (by_end GoesTo (kept_and_ran status.Done) (kept_and_ran status.SourceFault) (kept_and_ran status.HeapFull) (kept_and_ran status.StackFull) (kept_and_ran status.StepLimit) stopped (run h.image bounds.sizes bounds.steps).end) a)
           (λ u. subst (λ (s : Status). GoOutcome f o e folder out err src img bounds s) (sym u.1) (go_cut u.0))
           (subst (λ (x : Answer). Reports o e out err x ended) go_answer_is r)

@@ -142,16 +142,16 @@ module _ {F S E : Type 0} (f : FolderOf F) (o : SinkOf S) (e : SinkOf E) (folder
     pub due : IsDue image
 
   -- the very bytes that were kept were run, and this is the answer of their run
-  abbrev pub IsGone : List ℕ → List ℕ → Bounds → Status → Type 0
-  IsGone src img bounds ended = OfText src img (λ image. IsAnswered o e out err (answer image bounds.sizes bounds.steps) ended)
+  abbrev pub IsKeptAndRun : List ℕ → List ℕ → Bounds → Status → Type 0
+  IsKeptAndRun src img bounds ended = OfText src img (λ image. IsAnswered o e out err (answer image bounds.sizes bounds.steps) ended)
 
   -- of `go`: its run never stops the machine. Where there is no run, all is as with `compile`.
   abbrev pub GoOutcome : List ℕ → List ℕ → Bounds → Status → Type 0
-  GoOutcome src img bounds status.Done = IsGone src img bounds status.Done
-  GoOutcome src img bounds status.SourceFault = IsGone src img bounds status.SourceFault
-  GoOutcome src img bounds status.HeapFull = IsGone src img bounds status.HeapFull
-  GoOutcome src img bounds status.StackFull = IsGone src img bounds status.StackFull
-  GoOutcome src img bounds status.StepLimit = IsGone src img bounds status.StepLimit
+  GoOutcome src img bounds status.Done = IsKeptAndRun src img bounds status.Done
+  GoOutcome src img bounds status.SourceFault = IsKeptAndRun src img bounds status.SourceFault
+  GoOutcome src img bounds status.HeapFull = IsKeptAndRun src img bounds status.HeapFull
+  GoOutcome src img bounds status.StackFull = IsKeptAndRun src img bounds status.StackFull
+  GoOutcome src img bounds status.StepLimit = IsKeptAndRun src img bounds status.StepLimit
   GoOutcome src img bounds status.MachineStop = ⊥
   GoOutcome src img bounds status.WriteFault =
       OfText src img (λ image. IsUnwritten o e out err (answer image bounds.sizes bounds.steps)) ⊎ (IsIdle out × CompileOutcome f e folder err src img status.WriteFault)

@@ -211,18 +211,18 @@ fn a_listing_without_room(rt: HostRuntime) -> Result<(), Fail> {
 /// Code that puts -32, 31 and 7 and halts with 7.
 static THREE_PUTS: &[u8] = b"\x70\x80\x4E\x42\x70\x7C\x4E\x42\x70\x1C\x4E\x42\x4E\x40";
 
-/// How many bytes a put takes before it fails, its number, and what `out` holds then. The fourth put is the first one of the value's
-/// line.
+/// The number of a put that fails, how many bytes it takes, and what `out` holds then. The fourth put is the first one of the
+/// value's line.
 static FAILED_PUTS: [(u32, u32, &[u8]); 9] = [
-    (0, 1, b""),
-    (2, 1, b"-3"),
-    (3, 1, b"-32"),
-    (0, 2, b"-32"),
-    (1, 2, b"-323"),
+    (1, 0, b""),
+    (1, 2, b"-3"),
+    (1, 3, b"-32"),
+    (2, 0, b"-32"),
+    (2, 1, b"-323"),
     (2, 2, b"-3231"),
-    (0, 3, b"-3231"),
-    (1, 3, b"-32317"),
-    (0, 4, b"-32317"),
+    (3, 0, b"-3231"),
+    (3, 1, b"-32317"),
+    (4, 0, b"-32317"),
 ];
 
 #[test]
@@ -231,7 +231,7 @@ fn each_put_that_fails(rt: HostRuntime) -> Result<(), Fail> {
     let image = image_of(&rt, alloc, THREE_PUTS)?;
     let words = ["run", "m0", "64", "64", "7"];
     check(&rt, alloc, &image, &words, done(b"-32317\nvalue 7\n"))?;
-    for (taken, call, held) in FAILED_PUTS {
+    for (call, taken, held) in FAILED_PUTS {
         let fail = Vec::from_slice(alloc, &[(call, taken)])?;
         let mut out = MemSink::new(alloc, 1000, fail)?;
         check_on(&rt, alloc, &image, &words, &mut out, unwritten(held))?;
