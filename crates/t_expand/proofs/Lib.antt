@@ -1,1 +1,9 @@
 pub mod FirstRefusals
+pub mod NodeLemmas
+pub mod QuotedLemmas
+pub mod SpellingLemmas
+pub mod RefusalLemmas
+pub mod ScopeLemmas
+pub mod GrowthLemmas
+pub mod FormLemmas
+pub mod StepLemmas

@@ -1,7 +1,7 @@
-pub mod Builtins
-pub mod Data
+pub mod Building
+pub mod Driving
+pub mod Expanding
 pub mod Meaning
-pub mod Names
+pub mod Quoting
 pub mod Refusals
-pub mod Rows
 pub mod Units

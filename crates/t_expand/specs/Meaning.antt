@@ -3,6 +3,7 @@ use Rattle.std.specs.Prelude.{◌≡◌, ◌≢◌, ℕ, Bool, false, List, [], 
 use Rattle.std.specs.List.{flat_map}
 use Rattle.t_base.specs.declared.basics.Span.{Span}
 use Rattle.t_base.specs.declared.basics.Name.{Name as NamePlace}
+use Rattle.t_base.specs.declared.basics.Var.{Var}
 use Rattle.t_base.specs.declared.shared_parts.Const.{Const}
 use Rattle.t_base.specs.declared.shared_parts.Const.TheVariants as Constant
 use Rattle.t_base.specs.declared.shared_parts.Shared.{Shared}
@@ -16,9 +17,9 @@ use Rattle.t_core.specs.declared.forms.UnitCore.{UnitCore}
 use Rattle.t_core.specs.Nodes.{parts_of}
 use Rattle.t_core.specs.Nodes.{Part as NodePart}
 use Rattle.t_core.specs.Whole.{IsWhole}
-use Rattle.t_expand.specs.Data.{Datum, atom, cons, given, span_of, datum_of}
-use Rattle.t_expand.specs.Names.{Scope, Bound, within}
-use Rattle.t_expand.specs.Rows.{Definition, define, lset, operation_form, stands_for, node, Shape, constant, local, global, builtin_value, op_value, lambda, if_, block, let_, labels, set_local, set_global, catch_, object, call, primitive, Part, row}
+use Rattle.t_forms.specs.Data.{Datum, atom, cons, given, span_of, datum_of}
+use Rattle.t_forms.specs.Names.{Scope, Bound, within}
+use Rattle.t_rows.specs.Rows.{Definition, define, lset, operation_form, stands_for, node, Shape, constant, local, global, builtin_value, op_value, lambda, if_, block, let_, labels, set_local, set_global, catch_, object, call, primitive, Part, row}
 use Rattle.t_expand.specs.Units.{Top, defining, broken, expression, tops_of, known_in, definitions_of, Known, a_kept_global, a_kept_op, global_texts, op_texts}
 
 -- ---- constants
@@ -40,45 +41,47 @@ IsQuoted shared (cons s head tail) c =
 
 -- ---- nodes
 
--- the node is of this shape, in a tail place or not
-abbrev pub Fits : Shared → Bool → Shape → Core → Type 0
-Fits shared tail (constant d) (Node.Const c) = IsQuoted shared d c
-Fits shared tail (local v) (Node.Local w) = v ≡ w
-Fits shared tail (global g) (Node.Global h) = g ≡ h
-Fits shared tail (builtin_value p) (Node.Builtin q) = p ≡ q
-Fits shared tail (op_value o) (Node.Op p) = o ≡ p
-Fits shared tail lambda (Node.Lambda params body) = Unit {0}
-Fits shared tail if_ (Node.If test a b) = Unit {0}
-Fits shared tail block (Node.Block items) = Unit {0}
-Fits shared tail let_ (Node.Let vars values body) = Unit {0}
-Fits shared tail labels (Node.Labels vars lambdas body) = Unit {0}
-Fits shared tail (set_local v) (Node.SetLocal w value) = v ≡ w
-Fits shared tail (set_global g) (Node.SetGlobal h value) = g ≡ h
-Fits shared tail catch_ (Node.Catch v body) = Unit {0}
-Fits shared tail (object ops) (Node.Object proc methods) = map (λ m. m.op) methods ≡ ops
-Fits shared tail call (Node.Call operator operands last) = last ≡ tail
-Fits shared tail (primitive p) (Node.Prim q operands) = p ≡ q
-Fits shared tail _ _ = ⊥
+-- the node is of this shape, in a tail place or not, where the local names mean these variables
+abbrev pub Fits : Shared → List Var → Bool → Shape → Core → Type 0
+Fits shared vars tail (constant d) (Node.Const c) = IsQuoted shared d c
+Fits shared vars tail (local i) (Node.Local w) = slice_get vars i ≡ Some w
+Fits shared vars tail (global g) (Node.Global h) = g ≡ h
+Fits shared vars tail (builtin_value p) (Node.Builtin q) = p ≡ q
+Fits shared vars tail (op_value o) (Node.Op p) = o ≡ p
+Fits shared vars tail lambda (Node.Lambda params body) = Unit {0}
+Fits shared vars tail if_ (Node.If test a b) = Unit {0}
+Fits shared vars tail block (Node.Block items) = Unit {0}
+Fits shared vars tail let_ (Node.Let bound values body) = Unit {0}
+Fits shared vars tail labels (Node.Labels bound lambdas body) = Unit {0}
+Fits shared vars tail (set_local i) (Node.SetLocal w value) = slice_get vars i ≡ Some w
+Fits shared vars tail (set_global g) (Node.SetGlobal h value) = g ≡ h
+Fits shared vars tail catch_ (Node.Catch v body) = Unit {0}
+Fits shared vars tail (object ops) (Node.Object proc methods) = map (λ m. m.op) methods ≡ ops
+Fits shared vars tail call (Node.Call operator operands last) = last ≡ tail
+Fits shared vars tail (primitive p) (Node.Prim q operands) = p ≡ q
+Fits shared vars tail _ _ = ⊥
 
 -- the nodes of a form, with the spans of the data that they stand for
 pub record Nodes : Type 0 where
   pub nodes : List Core
   pub spans : List Span
 
--- The node at a place is what the form stands for in a scope: what the form of its row stands for, or a node of the row's shape with the
--- row's span, nothing being refused at the form, whose parts are in order what the row's parts stand for. The names of a part mean the
--- variables that the node binds around it.
+-- The node at a place is what the form stands for in a scope whose local names mean these variables: what the form of its row stands for,
+-- or a node of the row's shape with the row's span, nothing being refused at the form, whose parts are in order what the row's parts
+-- stand for. The names of a part mean the variables that the node binds around it.
 mutual
-  pub data Means (shared : Shared) (n : Nodes) : Scope → Datum → Bool → ℕ → Type 0 where
-    as_form : (scope : Scope) (d e : Datum) (tail : Bool) (k : ℕ) → row scope d ≡ stands_for e → Means shared n scope e tail k → Means shared n scope d tail k
-    as_node : (scope : Scope) (d : Datum) (tail : Bool) (k : ℕ) (shape : Shape) (parts : List Part) (c : Core) → row scope d ≡ node shape [] parts
-        → slice_get n.nodes k ≡ Some c → slice_get n.spans k ≡ Some (span_of d) → Fits shared tail shape c → AllMean shared n scope parts (parts_of c tail)
-        → Means shared n scope d tail k
+  pub data Means (shared : Shared) (n : Nodes) : List Var → Scope → Datum → Bool → ℕ → Type 0 where
+    as_form : (vars : List Var) (scope : Scope) (d e : Datum) (tail : Bool) (k : ℕ) → row scope d ≡ stands_for e → Means shared n vars scope e tail k
+        → Means shared n vars scope d tail k
+    as_node : (vars : List Var) (scope : Scope) (d : Datum) (tail : Bool) (k : ℕ) (shape : Shape) (parts : List Part) (c : Core)
+        → row scope d ≡ node shape [] parts → slice_get n.nodes k ≡ Some c → slice_get n.spans k ≡ Some (span_of d) → Fits shared vars tail shape c
+        → AllMean shared n vars scope parts (parts_of c tail) → Means shared n vars scope d tail k
 
-  pub data AllMean (shared : Shared) (n : Nodes) : Scope → List Part → List NodePart → Type 0 where
-    no_parts : (scope : Scope) → AllMean shared n scope [] []
-    one_part : (scope : Scope) (p : Part) (q : NodePart) (ps : List Part) (qs : List NodePart) → length p.binds ≡ length q.binds
-        → Means shared n (within scope p.binds q.binds) p.form q.tail q.at → AllMean shared n scope ps qs → AllMean shared n scope (p ∷ ps) (q ∷ qs)
+  pub data AllMean (shared : Shared) (n : Nodes) : List Var → Scope → List Part → List NodePart → Type 0 where
+    no_parts : (vars : List Var) (scope : Scope) → AllMean shared n vars scope [] []
+    one_part : (vars : List Var) (scope : Scope) (p : Part) (q : NodePart) (ps : List Part) (qs : List NodePart) → length p.binds ≡ length q.binds
+        → Means shared n (q.binds ++ vars) (within scope p.binds) p.form q.tail q.at → AllMean shared n vars scope ps qs
+        → AllMean shared n vars scope (p ∷ ps) (q ∷ qs)
 
 -- ---- forms
 
@@ -88,7 +91,7 @@ top_scope defined = record { locals = []; defined = defined }
 
 -- what the root stands for, in no tail place
 abbrev pub RootMeans : List Bound → Shared → Nodes → Datum → ℕ → Type 0
-RootMeans defined shared n d root = Means shared n (top_scope defined) d false root
+RootMeans defined shared n d root = Means shared n [] (top_scope defined) d false root
 
 abbrev pub DefaultMeans : List Bound → Shared → Nodes → Option Datum → ℕ → Type 0
 DefaultMeans defined shared n None root = (n.nodes ≡ []) × (root ≡ 0)

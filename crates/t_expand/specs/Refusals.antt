@@ -1,21 +1,14 @@
 -- What is refused in a unit, and the first refusal.
 use Rattle.std.specs.Prelude.{◌≡◌, ◌⊎◌, ℕ, ◌<◌, ◌≤◌, List, [], ◌∷◌, ◌++◌, map, Contains, Some, None, if◌then◌else◌}
 use Rattle.std.specs.List.{list_any}
-use Rattle.t_base.specs.declared.basics.Var.{Var}
 use Rattle.t_reader.specs.Grammar.{Tree}
-use Rattle.t_expand.specs.declared.fault.SyntaxKind.{SyntaxKind}
-use Rattle.t_expand.specs.declared.fault.SyntaxKind.TheVariants.{BadForm, Twice, ParamTwice, NotOperation, NotSettable, NotTopLevel, ConstantSet, FreeName}
-use Rattle.t_expand.specs.Data.{Datum, datum_of, Name, is_same_name, Binder}
-use Rattle.t_expand.specs.Names.{Scope, within}
-use Rattle.t_expand.specs.Rows.{stands_for, node, Shape, Refusal, refusal, Part, row, twice, Definition, define, lset, operation_form}
+use Rattle.t_rows.specs.declared.refusal.Refusal.{Refusal}
+use Rattle.t_rows.specs.declared.refusal.SyntaxKind.{SyntaxKind}
+use Rattle.t_rows.specs.declared.refusal.SyntaxKind.TheVariants.{BadForm, Twice, ParamTwice, NotOperation, NotSettable, NotTopLevel, ConstantSet, FreeName}
+use Rattle.t_forms.specs.Data.{Datum, datum_of, is_same_name, Binder}
+use Rattle.t_forms.specs.Names.{Scope, within}
+use Rattle.t_rows.specs.Rows.{stands_for, node, Shape, refusal, Part, row, twice, Definition, define, lset, operation_form}
 use Rattle.t_expand.specs.Units.{Top, defining, broken, expression, tops_of, definitions_of, names_defined, defined_name}
-
--- What names a part binds is all that counts here; which variables they mean doesn't.
-abbrev pub some_variables : List Name → List Var
-some_variables names = map (λ n. record { 0 = 0 }) names
-
-abbrev pub inner : Scope → Part → Scope
-inner scope p = within scope p.binds (some_variables p.binds)
 
 -- this refusal stands at the form or in it: at the form by its row, in the form that it stands for, or in a part of its node
 pub data Refused : Scope → Datum → Refusal → Type 0 where
@@ -23,7 +16,7 @@ pub data Refused : Scope → Datum → Refusal → Type 0 where
   at_form : (scope : Scope) (d : Datum) (r : Refusal) (shape : Shape) (rs : List Refusal) (parts : List Part) → row scope d ≡ node shape rs parts
       → Contains rs r → Refused scope d r
   in_part : (scope : Scope) (d : Datum) (r : Refusal) (shape : Shape) (rs : List Refusal) (parts : List Part) (p : Part)
-      → row scope d ≡ node shape rs parts → Contains parts p → Refused (inner scope p) p.form r → Refused scope d r
+      → row scope d ≡ node shape rs parts → Contains parts p → Refused (within scope p.binds) p.form r → Refused scope d r
 
 abbrev pub top_scope : List Top → Scope
 top_scope tops = record { locals = []; defined = definitions_of tops }
@@ -64,7 +57,7 @@ number FreeName = 8
 
 -- the first stands at a lower place, or at the same place with a number that is no greater
 abbrev pub Precedes : Refusal → Refusal → Type 0
-Precedes a b = (a.at.start < b.at.start) ⊎ (a.at.start ≡ b.at.start) × (number a.kind ≤ number b.kind)
+Precedes a b = (a.span.start < b.span.start) ⊎ (a.span.start ≡ b.span.start) × (number a.kind ≤ number b.kind)
 
 -- the refusal with the least place, and on a tie the least number, in the whole text
 pub record IsFirstRefusal (data_ : List Tree) (r : Refusal) : Type 0 where

@@ -6,9 +6,9 @@ use Rattle.t_base.specs.declared.basics.Span.{Span}
 use Rattle.t_reader.specs.Grammar.{symbol}
 use Rattle.t_objects.specs.declared.words.Word.{Word}
 use Rattle.t_objects.specs.declared.words.Word.TheVariants as word
-use Rattle.t_expand.specs.Data.{Datum, atom, cons, given, span_of, items_of, word_of, Name, written, made, is_same_name, Binder}
-use Rattle.t_expand.specs.Names.{Bound, bound, a_global, an_op}
-use Rattle.t_expand.specs.Rows.{Definition, define, lset, operation_form, definition_of_word}
+use Rattle.t_forms.specs.Data.{Datum, atom, cons, given, span_of, items_of, word_of, Name, written, made, is_same_name, Binder}
+use Rattle.t_forms.specs.Names.{Bound, bound, a_global, an_op}
+use Rattle.t_rows.specs.Rows.{Definition, define, lset, operation_form, definition_of_word}
 
 -- a form at top level: one that defines a name, a defining form that is no row, or an expression
 pub data Top : Type 0 where

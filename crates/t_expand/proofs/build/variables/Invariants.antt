@@ -1,0 +1,6 @@
+use Rattle.std.proofs.Common.{◌≡◌}
+use Rattle.t_expand.specs.Building.{numbered}
+use Rattle.t_expand.proofs.build.variables.Given as goal
+
+abbrev pub invariant-loop-k : goal.invariant-loop-k
+invariant-loop-k l = l.items.items ≡ numbered l.vars.first l.k

@@ -1,0 +1,23 @@
+use Rattle.std.proofs.Common.{◌≢◌, sym, subst, AllPairs}
+use Rattle.t_expand.specs.Driving.{IsUnder, IsNext}
+use Rattle.t_expand.proofs.GrowthLemmas.{Grows_refl, Grows_trans}
+use Rattle.t_expand.proofs.driver_state.Expansion.run.Goals as goal
+
+pub frames-init : goal.frames-init
+frames-init c = record {
+  grows = Grows_refl c.args.self.now;
+  under = λ root distinct u. subst (λ l. IsUnder root c.args.self.now l c.args.frame) (sym c.new-waiting.ensures.items) u;
+}
+
+pub frames-preserved : goal.frames-preserved
+frames-preserved c = record {
+  grows = Grows_trans c.args.self.now c.frames.self c.step.new.self c.frames.invariant.grows c.in_ok-frame.ensures.grows;
+  under = λ root distinct u.
+      subst (λ s. IsNext root c.step.new.self c.step.new.waiting.items s) c.in-On.is
+      (c.in_ok-frame.ensures.next root (subst (λ n. AllPairs (λ a b. a ≢ b) n) (sym c.frames.invariant.grows.shared.names) distinct) (c.frames.invariant.under root distinct u));
+}
+
+pub returns-in-End-clause-end : goal.returns-in-End-clause-end
+returns-in-End-clause-end c root distinct u =
+    subst (λ s. IsNext root c.step.new.self c.step.new.waiting.items s) c.in-End.is
+    (c.in_ok-frame.ensures.next root (subst (λ n. AllPairs (λ a b. a ≢ b) n) (sym c.frames.invariant.grows.shared.names) distinct) (c.frames.invariant.under root distinct u))

@@ -1,0 +1,160 @@
+-- How the form under way stands in the form that is expanded, what is made of it, and what is still to be looked at.
+use Rattle.std.specs.Prelude.{◌≡◌, ◌⊎◌, ℕ, Bool, false, List, [], ◌∷◌, ◌++◌, map, length, drop, Contains, Option, Some, None}
+use Rattle.t_forms.specs.declared.arena.Cell.{Cell}
+use Rattle.t_forms.specs.Data.{Datum, span_of}
+use Rattle.t_forms.specs.Names.{Scope, within}
+use Rattle.t_forms.specs.Held.{Held, Around, vars_of, IsScope}
+use Rattle.t_rows.specs.declared.refusal.Refusal.{Refusal}
+use Rattle.t_rows.specs.declared.rows.Part.{Part as CodePart}
+use Rattle.t_rows.specs.declared.rows.Row.TheVariants as coded
+use Rattle.t_rows.specs.Rows.{Shape, Part, row, node}
+use Rattle.t_rows.specs.Given.{IsRow, IsShape, AreParts}
+use Rattle.t_expand.specs.Meaning.{Means, AllMean, Nodes}
+use Rattle.t_expand.specs.Refusals.{Refused}
+use Rattle.t_expand.specs.Building.{part_of, variables_of}
+use Rattle.t_expand.specs.Expanding.{IsCovered, IsFirst}
+use Rattle.t_base.specs.declared.basics.Var.{Var}
+use Rattle.t_base.specs.declared.shared_parts.Shared.{Shared}
+use Rattle.t_expand.specs.declared.driver_state.Expansion.{Expansion}
+use Rattle.t_expand.specs.declared.driver.Frame.{Frame}
+use Rattle.t_expand.specs.declared.driver.NodeRow.{NodeRow}
+use Rattle.t_expand.specs.declared.driver.Waiting.{Waiting}
+use Rattle.t_expand.specs.declared.driver.Step.{Step}
+use Rattle.t_expand.specs.declared.driver.Step.TheVariants as step
+
+-- both stand for the same, and the same is refused in them
+pub record SameForm (around : Scope) (d e : Datum) : Type 0 where
+  pub means : (shared : Shared) (n : Nodes) (vars : List Var) (tail : Bool) (k : ℕ) → Means shared n vars around e tail k → Means shared n vars around d tail k
+  pub into : (r : Refusal) → Refused around d r → Refused around e r
+  pub back : (r : Refusal) → Refused around e r → Refused around d r
+
+-- the form that is expanded, what is around it, and the first refusal before it
+pub record Root : Type 0 where
+  pub at : Around
+  pub around : Scope
+  pub form : Datum
+  pub first : Option Refusal
+
+-- a form that stands for a node, what is around it, and the parts of the node: those that are there before the rest
+pub record Open : Type 0 where
+  pub at : Around
+  pub around : Scope
+  pub form : Datum
+  pub shape : Shape
+  pub refusals : List Refusal
+  pub before : List Part
+  pub after : List Part
+
+-- these parts are left after a count of them
+pub record AreLeft (names : List (List ℕ)) (cells : List Cell) (parts : List CodePart) (count : ℕ) (after : List Part) : Type 0 where
+  pub past : List CodePart
+  pub rest : List CodePart
+  pub split : parts ≡ past ++ rest
+  pub counted : length past ≡ count
+  pub are : AreParts names cells rest after
+
+-- the frame is the open form's
+pub record IsOpen (e : Expansion) (f : Frame) (o : Open) : Type 0 where
+  pub scope : IsScope e.shared.names o.at o.around
+  pub row_is : row o.around o.form ≡ node o.shape o.refusals (o.before ++ o.after)
+  pub span : f.span ≡ span_of o.form
+  pub shape : IsShape e.shared.names e.forms (vars_of o.at) f.shape o.shape
+  pub left : AreLeft e.shared.names e.forms f.parts.items (length f.done.items) o.after
+  pub refused : e.first ≡ None → o.refusals ≡ []
+  pub made : e.first ≡ None → AllMean e.shared e.nodes (vars_of o.at) o.around o.before (map part_of f.done.items)
+
+-- without the innermost bindings
+abbrev pub without : ℕ → Around → Around
+without count at = record { locals = drop count at.locals; table = at.table }
+
+-- the open form waits for its next part, which the inner form stands for
+pub record WaitsFor (w : Waiting) (o inner : Open) (tail : Bool) : Type 0 where
+  pub now : Part
+  pub rest : List Part
+  pub after : o.after ≡ now ∷ rest
+  pub around : inner.around ≡ within o.around now.binds
+  pub vars : vars_of inner.at ≡ variables_of w.vars ++ vars_of o.at
+  pub count : length now.binds ≡ length (variables_of w.vars)
+  pub outer : without w.vars.count inner.at ≡ o.at
+  pub same : SameForm inner.around now.form inner.form
+  pub tail_is : tail ≡ w.tail
+
+-- the inner form stands in the root by the open forms that wait, the innermost first
+abbrev pub Stacked : Expansion → Root → List Waiting → Open → Bool → List Open → Type 0
+Stacked e root waiting inner tail [] =
+    (waiting ≡ []) × (inner.around ≡ root.around) × (inner.at ≡ root.at) × SameForm root.around root.form inner.form × (tail ≡ false)
+Stacked e root waiting inner tail (o ∷ others) =
+    (front : List Waiting) × (w : Waiting) × (waiting ≡ front ++ w ∷ []) × IsOpen e w.frame o × WaitsFor w o inner tail × Stacked e root front o w.frame.tail others
+
+-- ---- what is refused
+
+-- it is refused in one of the parts
+pub record Among (around : Scope) (parts : List Part) (r : Refusal) : Type 0 where
+  pub part : Part
+  pub has : Contains parts part
+  pub refused : Refused (within around part.binds) part.form r
+
+-- it is refused in a part behind those that are waited for
+abbrev pub Behind : List Open → Refusal → Type 0
+Behind [] r = ⊥
+Behind (o ∷ others) r = Among o.around (drop 1 o.after) r ⊎ Behind others r
+
+-- What is refused in the root stands in what is still to be looked at, or else the first refusal so far comes no later.
+pub record Tracks (root : Root) (now : Option Refusal) (left : Refusal → Type 0) : Type 0 where
+  pub known : (r : Refusal) → now ≡ Some r → (root.first ≡ Some r) ⊎ Refused root.around root.form r
+  pub least : (r : Refusal) → Refused root.around root.form r → IsCovered now r ⊎ left r
+  pub kept : (r : Refusal) → root.first ≡ Some r → IsCovered now r
+  pub stands : (r : Refusal) → left r → Refused root.around root.form r
+
+-- ---- states
+
+abbrev pub left_under : Open → List Open → Refusal → Type 0
+left_under top below r = Among top.around top.after r ⊎ Behind below r
+
+-- the frame is under way in the root
+pub record IsUnder (root : Root) (e : Expansion) (waiting : List Waiting) (f : Frame) : Type 0 where
+  pub top : Open
+  pub below : List Open
+  pub opened : IsOpen e f top
+  pub scope : e.scope ≡ top.at
+  pub stacked : Stacked e root waiting top f.tail below
+  pub tracks : Tracks root e.first (left_under top below)
+
+-- the form that is waited for is looked at, and its node is at a place if nothing was refused
+pub record IsBack (root : Root) (e : Expansion) (waiting : List Waiting) (key : ℕ) : Type 0 where
+  pub top : Open
+  pub tail : Bool
+  pub below : List Open
+  pub scope : e.scope ≡ top.at
+  pub made : e.first ≡ None → Means e.shared e.nodes (vars_of top.at) top.around top.form tail key
+  pub stacked : Stacked e root waiting top tail below
+  pub tracks : Tracks root e.first (Behind below)
+
+-- the root is looked at
+pub record IsEnd (root : Root) (e : Expansion) (key : ℕ) : Type 0 where
+  pub scope : e.scope ≡ root.at
+  pub made : e.first ≡ None → Means e.shared e.nodes (vars_of root.at) root.around root.form false key
+  pub known : (r : Refusal) → e.first ≡ Some r → (root.first ≡ Some r) ⊎ Refused root.around root.form r
+  pub least : (r : Refusal) → Refused root.around root.form r → IsCovered e.first r
+  pub kept : (r : Refusal) → root.first ≡ Some r → IsCovered e.first r
+
+abbrev pub IsNext : Root → Expansion → List Waiting → Step → Type 0
+IsNext root e waiting (step.On f) = IsUnder root e waiting f
+IsNext root e waiting (step.End key) = IsEnd root e key
+
+-- the form whose row is the node that a form stands for
+pub record Finds (names : List (List ℕ)) (cells : List Cell) (at : Around) (around : Scope) (d : Datum) (found : NodeRow) : Type 0 where
+  pub form : Datum
+  pub same : SameForm around d form
+  pub held : Held names cells found.key form
+  pub is : IsRow names cells (vars_of at) (coded.Node found.shape found.refusals found.parts) (row around form)
+
+-- a form becomes a frame, its own refusals being noted
+pub record Opens (old new : Expansion) (around : Scope) (d : Datum) (f : Frame) : Type 0 where
+  pub top : Open
+  pub opened : IsOpen new f top
+  pub at : top.at ≡ old.scope
+  pub around_is : top.around ≡ around
+  pub before : top.before ≡ []
+  pub same : SameForm around d top.form
+  pub first : IsFirst old.first top.refusals new.first

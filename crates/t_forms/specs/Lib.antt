@@ -1,0 +1,5 @@
+pub mod Builtins
+pub mod Data
+pub mod Held
+pub mod Lookup
+pub mod Names

@@ -1,0 +1,46 @@
+-- What the code's row is to the table's.
+use Rattle.std.specs.Prelude.{◌≡◌, ℕ, List, [], ◌∷◌, slice_get, Some}
+use Rattle.std.specs.Global.{Vec}
+use Rattle.t_base.specs.declared.basics.Var.{Var}
+use Rattle.t_forms.specs.declared.arena.Cell.{Cell}
+use Rattle.t_forms.specs.Held.{Held, AreNames}
+use Rattle.t_rows.specs.declared.refusal.Refusal.{Refusal}
+use Rattle.t_rows.specs.declared.rows.Shape.{Shape as CodeShape}
+use Rattle.t_rows.specs.declared.rows.Shape.TheVariants as code
+use Rattle.t_rows.specs.declared.rows.Part.{Part as CodePart}
+use Rattle.t_rows.specs.declared.rows.Row.{Row as CodeRow}
+use Rattle.t_rows.specs.declared.rows.Row.TheVariants as coded
+use Rattle.t_rows.specs.Rows.{Shape, constant, local, global, builtin_value, op_value, lambda, if_, block, let_, labels, set_local, set_global, catch_, object, call, primitive, nothing, Part, Row, stands_for, node}
+
+abbrev pub IsShape : List (List ℕ) → List Cell → List Var → CodeShape → Shape → Type 0
+IsShape names cells vars c (constant d) = (k : ℕ) × (c ≡ code.Constant k) × Held names cells k d
+IsShape names cells vars c (local i) = (v : Var) × (c ≡ code.Local v) × (slice_get vars i ≡ Some v)
+IsShape names cells vars c (global g) = c ≡ code.Global g
+IsShape names cells vars c (builtin_value p) = c ≡ code.BuiltinValue p
+IsShape names cells vars c (op_value o) = c ≡ code.OpValue o
+IsShape names cells vars c lambda = c ≡ code.Lambda
+IsShape names cells vars c if_ = c ≡ code.If
+IsShape names cells vars c block = c ≡ code.Block
+IsShape names cells vars c let_ = c ≡ code.Let
+IsShape names cells vars c labels = c ≡ code.Labels
+IsShape names cells vars c (set_local i) = (v : Var) × (c ≡ code.SetLocal v) × (slice_get vars i ≡ Some v)
+IsShape names cells vars c (set_global g) = c ≡ code.SetGlobal g
+IsShape names cells vars c catch_ = c ≡ code.Catch
+IsShape names cells vars c (object ops) = c ≡ code.Object ops
+IsShape names cells vars c call = c ≡ code.Call
+IsShape names cells vars c (primitive p) = c ≡ code.Primitive p
+IsShape names cells vars c nothing = c ≡ code.Nothing
+
+abbrev pub IsPart : List (List ℕ) → List Cell → CodePart → Part → Type 0
+IsPart names cells c p = AreNames names c.binds.items p.binds × Held names cells c.form p.form
+
+abbrev pub AreParts : List (List ℕ) → List Cell → List CodePart → List Part → Type 0
+AreParts names cells cs [] = cs ≡ []
+AreParts names cells cs (p ∷ ps) = (c : CodePart) × (others : List CodePart) × (cs ≡ c ∷ others) × IsPart names cells c p × AreParts names cells others ps
+
+-- the code's row is the table's, over these cells and variables
+abbrev pub IsRow : List (List ℕ) → List Cell → List Var → CodeRow → Row → Type 0
+IsRow names cells vars c (stands_for d) = (k : ℕ) × (c ≡ coded.StandsFor k) × Held names cells k d
+IsRow names cells vars c (node shape refusals parts) =
+    (s : CodeShape) × (rs : Vec Refusal) × (ps : Vec CodePart) × (c ≡ coded.Node s rs ps) × IsShape names cells vars s shape × (rs.items ≡ refusals)
+    × AreParts names cells ps.items parts
