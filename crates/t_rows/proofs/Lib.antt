@@ -16,3 +16,4 @@ pub mod CaseLemmas
 pub mod ProcedureLemmas
 pub mod StepLemmas
 pub mod LocativeLemmas
+pub mod MethodLemmas

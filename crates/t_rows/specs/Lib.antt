@@ -4,6 +4,7 @@ pub mod Definitions
 pub mod Given
 pub mod Lists
 pub mod Meant
+pub mod Methods
 pub mod Procedures
 pub mod Rows
 pub mod Sorts

@@ -39,7 +39,7 @@ pub enum Definition {
 }
 
 /// The names that items are, if each is one.
-fn item_names(forms: &Forms, items: u32) -> Result<Option<Vec<Binder>>, Memory>
+pub fn item_names(forms: &Forms, items: u32) -> Result<Option<Vec<Binder>>, Memory>
     ensures { (names : List (List ℕ)) (ds : List Datum) → AreItems names forms.now items ds → IfOk result (λ r. IsAllOf (IsBinder names) r (binders_of ds)) }
 {
     let keys = keys_of(forms, items)?;
