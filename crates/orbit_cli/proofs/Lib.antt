@@ -1,5 +1,4 @@
-mod ImageOutcomes
 mod Numbers
 mod Outcomes
-mod Refusals
 mod Reports
+mod Rows

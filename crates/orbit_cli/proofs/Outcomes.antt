@@ -1,12 +1,11 @@
 -- From what the parts of a command come to, to what it comes to.
 use Rattle.std.proofs.Common.{◌≡◌, ℕ, Bool, true, false, List, Option, Some, None, refl, sym, ap, ◌∙◌, subst, inl, inr, ⊎_elim}
 use Rattle.std.specs.Prelude.{option_map}
+use Rattle.t_ports.specs.declared.ports.Folder.{Ghosts as FolderOf}
+use Rattle.t_ports.specs.declared.ports.Sink.{Ghosts as SinkOf}
 use Rattle.t_ports.specs.Causes.{Rose}
 use Rattle.t_ports.specs.Files.{Files, IfBothTold, IsSame, Puts}
-use Rattle.t_ports.specs.Pieces.{TookFront}
 use Rattle.program_runs.specs.Runs.{Broken}
-use Rattle.m68020_step.specs.declared.machine.Sizes.{Sizes}
-use Rattle.m68020_step.specs.Boot.{is_size}
 use Rattle.image_file.specs.Grammar.{Parts, IsImageOf}
 use Rattle.image_file.proofs.Laws.{one_image}
 use Rattle.orbit_build.specs.Faithful.{Faithful, KeepsMeaning}
@@ -14,15 +13,17 @@ use Rattle.orbit_monitor.specs.declared.end.Exit.{Exit}
 use Rattle.orbit_monitor.specs.declared.end.Exit.TheVariants as exit
 use Rattle.orbit_monitor.specs.Run.{run}
 use Rattle.orbit_monitor.specs.Observed.{end_of}
-use Rattle.orbit_monitor.specs.Answering.{Loaded, run_on}
+use Rattle.orbit_monitor.specs.Answering.{Loaded}
+use Rattle.orbit_cli.specs.declared.words.Bounds.{Bounds}
 use Rattle.orbit_cli.specs.declared.status.Status.{Status}
 use Rattle.orbit_cli.specs.declared.status.Status.TheVariants as status
-use Rattle.orbit_cli.specs.declared.prepare.Refusal.{Refusal}
-use Rattle.orbit_cli.specs.declared.prepare.Refusal.TheVariants as refusal
-use Rattle.orbit_cli.specs.Words.{Go}
-use Rattle.orbit_cli.specs.Answer.{Answer, answer, answer_on, end_status, full_status}
-use Rattle.orbit_cli.specs.Outcome.{Outside, IsUntouched, Says, IsCompiled, sizes_of, Ran, IsUnwritten, GoOutcome}
-use Rattle.orbit_cli.specs.Parts.{IsReady, IsAnswered, IsCutOff, IsReported, out_of, err_of, KeepFails, KeepLacksMemory, KeptOutcome, Refuses, refusal_line, refusal_status}
+use Rattle.orbit_cli.specs.declared.refusal.Refusal.{Refusal}
+use Rattle.orbit_cli.specs.declared.refusal.Refusal.TheVariants as refusal
+use Rattle.orbit_cli.specs.Answer.{Answer, answer, answer_on, listing_answer, printed, end_status, full_status}
+use Rattle.orbit_cli.specs.Changes.{Change, change, IsIdle, Says, IsUnchanged, Keeps}
+use Rattle.orbit_cli.specs.Command.{AreSizes}
+use Rattle.orbit_cli.specs.Outcome.{IsCompiled, CompileOutcome, CheckOutcome, IsAnswered, IsUnwritten, IsRun, RunOutcome, ListOutcome, IsKeptAndRun, GoOutcome}
+use Rattle.orbit_cli.specs.Parts.{refusal_line, refusal_status, CompileCause, CheckCause, ImageCause, KeepCause, IsTranslated, IsFetchedProgram, IsFetchedListing, IsProgram, Reports}
 
 -- ---- folders
 
@@ -42,41 +43,69 @@ puts_after_same (Some x) None c name bytes p q = absurd p
 puts_after_same (Some x) (Some y) None name bytes p q = absurd q
 puts_after_same (Some x) (Some y) (Some z) name bytes p q = record { here = q.here; others = λ other ne. q.others other ne ∙ p other }
 
+module _ {F : Type 0} (f : FolderOf F) (old mid new : F) (same : IsUnchanged f (change old mid)) (keeps : f.keep_faults mid ≡ f.keep_faults old) (src bytes : List ℕ) (translated : IsTranslated f (change old mid) src bytes) where
+  -- the image of a fetched text was kept
+  pub kept : (img : List ℕ) → Keeps f (change mid new) img bytes → IsCompiled f (change old new) src img bytes
+  kept img k = record {
+    text = translated.text;
+    given = record { told = translated.given.told; short = translated.given.short };
+    faithful = translated.faithful;
+    kept = puts_after_same (f.files old) (f.files mid) (f.files new) img bytes same k;
+  }
+
+  pub unchanged : IsUnchanged f (change mid new) → IsUnchanged f (change old new)
+  unchanged u = same_twice (f.files old) (f.files mid) (f.files new) same u
+
+  -- it was not kept
+  pub unkept : (r : Refusal) → KeepCause f (change mid new) r → CompileCause f (change old new) src r
+  unkept refusal.Unkept h = (
+    subst (λ (n : ℕ). Rose n (f.keep_faults new)) keeps h,
+    (translated.text, record { told = translated.given.told; short = translated.given.short }, (bytes, translated.faithful)),
+  )
+  unkept refusal.Memory h = tt
+  unkept refusal.Unread h = absurd h
+  unkept refusal.Long h = absurd h
+  unkept (refusal.Source kind line column) h = absurd h
+  unkept (refusal.Bad kind at) h = absurd h
+  unkept refusal.Unbuilt h = absurd h
+
+-- ---- refusals
+
+module _ {F E : Type 0} (f : FolderOf F) (e : SinkOf E) (folder : Change F) (err : Change E) where
+  compile_refused_so : (src img : List ℕ) (r : Refusal) → IsUnchanged f folder → CompileCause f folder src r → Says e err (refusal_line src r) → CompileOutcome f e folder err src img (refusal_status r)
+  compile_refused_so src img refusal.Unread u h n = record { unchanged = u; noted = n; why = h }
+  compile_refused_so src img refusal.Long u h n = record { unchanged = u; noted = n; why = h }
+  compile_refused_so src img (refusal.Source kind line column) u h n = (kind, line, column, record { unchanged = u; noted = n; why = h })
+  compile_refused_so src img (refusal.Bad kind at) u h n = absurd h
+  compile_refused_so src img refusal.Unbuilt u h n = record { unchanged = u; noted = n; why = h }
+  compile_refused_so src img refusal.Unkept u h n = record { unchanged = u; noted = n; why = h }
+  compile_refused_so src img refusal.Memory u h n = record { unchanged = u; noted = n; why = tt }
+
+  pub compile_refused : (src img : List ℕ) (r : Refusal) (ended : Status) → IsUnchanged f folder → CompileCause f folder src r → ended ≡ refusal_status r → Says e err (refusal_line src r) → CompileOutcome f e folder err src img ended
+  compile_refused src img r ended u h is n = subst (λ (s : Status). CompileOutcome f e folder err src img s) (sym is) (compile_refused_so src img r u h n)
+
+  check_refused_so : (src : List ℕ) (r : Refusal) → IsUnchanged f folder → CheckCause f folder src r → Says e err (refusal_line src r) → CheckOutcome f e folder err src (refusal_status r)
+  check_refused_so src refusal.Unread u h n = record { unchanged = u; noted = n; why = h }
+  check_refused_so src refusal.Long u h n = record { unchanged = u; noted = n; why = h }
+  check_refused_so src (refusal.Source kind line column) u h n = (kind, line, column, record { unchanged = u; noted = n; why = h })
+  check_refused_so src (refusal.Bad kind at) u h n = absurd h
+  check_refused_so src refusal.Unbuilt u h n = record { unchanged = u; noted = n; why = h }
+  check_refused_so src refusal.Unkept u h n = absurd h
+  check_refused_so src refusal.Memory u h n = record { unchanged = u; noted = n; why = tt }
+
+  pub check_refused : (src : List ℕ) (r : Refusal) (ended : Status) → IsUnchanged f folder → CheckCause f folder src r → ended ≡ refusal_status r → Says e err (refusal_line src r) → CheckOutcome f e folder err src ended
+  check_refused src r ended u h is n = subst (λ (s : Status). CheckOutcome f e folder err src s) (sym is) (check_refused_so src r u h n)
+
 -- ---- how a run ends
 
--- the statuses that a run has
-abbrev pub is_of_run : Status → Bool
-is_of_run status.Done = true
-is_of_run status.SourceFault = true
-is_of_run status.HeapFull = true
-is_of_run status.StackFull = true
-is_of_run status.StepLimit = true
-is_of_run status.MachineStop = true
-is_of_run status.Usage = false
-is_of_run status.SourceRefused = false
-is_of_run status.BadImage = false
-is_of_run status.FetchFault = false
-is_of_run status.WriteFault = false
-is_of_run status.Memory = false
-is_of_run status.Limit = false
-is_of_run status.LongFile = false
-is_of_run status.Unbuilt = false
-
-full_is_of_run : (stack : Bool) → is_of_run (full_status stack) ≡ true
-full_is_of_run true = refl
-full_is_of_run false = refl
-
-end_is_of_run : (o : Option Exit) → is_of_run (end_status o) ≡ true
-end_is_of_run (Some (exit.Done face)) = refl
-end_is_of_run (Some (exit.Fault fault)) = refl
-end_is_of_run (Some (exit.Full stack asked left)) = full_is_of_run stack
-end_is_of_run (Some (exit.Stop why at)) = refl
-end_is_of_run None = refl
-
-pub not_of_run : (s : Status) → is_of_run s ≡ false → (o : Option Exit) → end_status o ≡ s → ⊥
-not_of_run s no_run o e =
-    let both : true ≡ false = sym (end_is_of_run o) ∙ ap is_of_run e ∙ no_run in
-    cc
+-- what holds at each status that a run has holds at the status of its end
+by_end : (P : Status → Type 0) → P status.Done → P status.SourceFault → P status.HeapFull → P status.StackFull → P status.StepLimit → P status.MachineStop → (end : Option Exit) → P (end_status end)
+by_end P done fault heap stack limit stop (Some (exit.Done face)) = done
+by_end P done fault heap stack limit stop (Some (exit.Fault x)) = fault
+by_end P done fault heap stack limit stop (Some (exit.Full true asked left)) = stack
+by_end P done fault heap stack limit stop (Some (exit.Full false asked left)) = heap
+by_end P done fault heap stack limit stop (Some (exit.Stop why at)) = stop
+by_end P done fault heap stack limit stop None = limit
 
 full_is_no_stop : (stack : Bool) → full_status stack ≡ status.MachineStop → ⊥
 full_is_no_stop true e = cc
@@ -91,100 +120,114 @@ stop_is_broken names (Some (exit.Stop why at)) e = refl
 stop_is_broken names None e = cc
 
 -- the image of a text never stops
-never_stops : (text bytes : List ℕ) (image : Parts) (sizes : Sizes) (steps : ℕ) → Faithful text bytes → IsImageOf bytes image → is_size sizes.heap ≡ true → is_size sizes.stack ≡ true → (answer image sizes steps).status ≡ status.MachineStop → ⊥
-never_stops text bytes image sizes steps faithful spelled heap stack e =
+never_stops : (text bytes : List ℕ) (image : Parts) (bounds : Bounds) → Faithful text bytes → IsImageOf bytes image → AreSizes bounds.sizes → (answer image bounds.sizes bounds.steps).status ≡ status.MachineStop → ⊥
+never_stops text bytes image bounds faithful spelled sized e =
     let same : faithful.image ≡ image = one_image bytes faithful.image image faithful.spelled spelled in
     let keeps : KeepsMeaning faithful.unit image = subst (λ (p : Parts). KeepsMeaning faithful.unit p) same faithful.keeps in
-    ⊎_elim (λ proper. proper.0) (λ cost. cost) ((keeps sizes heap stack).ends_only steps Broken (stop_is_broken image.names (run image sizes steps).end e))
+    ⊎_elim (λ proper. proper.0) (λ cost. cost) ((keeps bounds.sizes sized.heap sized.stack).ends_only bounds.steps Broken (stop_is_broken image.names (run image bounds.sizes bounds.steps).end e))
 
--- ---- go
+module _ {F S E : Type 0} (f : FolderOf F) (o : SinkOf S) (e : SinkOf E) (folder : Change F) (out : Change S) (err : Change E) where
+  -- ---- run
 
--- the same, but for what a fetch may change of the folder
-abbrev fetched_from : {S E : Type 0} → Outside S E → Option Files → ℕ → ℕ → Outside S E
-fetched_from old files fetch_faults keep_faults = record old { files = files; fetch_faults = fetch_faults; keep_faults = keep_faults }
+  module _ (img : List ℕ) (bounds : Bounds) where
+    run_refused_so : (r : Refusal) → IsIdle out → IsUnchanged f folder → ImageCause f folder img r → Says e err (refusal_line img r) → RunOutcome f o e folder out err img bounds (refusal_status r)
+    run_refused_so refusal.Unread i u h n = (i, record { unchanged = u; noted = n; why = h })
+    run_refused_so refusal.Long i u h n = (i, record { unchanged = u; noted = n; why = h })
+    run_refused_so (refusal.Bad kind at) i u h n = (i, (kind, at, record { unchanged = u; noted = n; why = h }))
+    run_refused_so refusal.Memory i u h n = (i, record { unchanged = u; noted = n; why = tt })
+    run_refused_so (refusal.Source kind line column) i u h n = absurd h
+    run_refused_so refusal.Unbuilt i u h n = absurd h
+    run_refused_so refusal.Unkept i u h n = absurd h
 
-module _ {S E : Type 0} (took : S → List ℕ → S → Type 0) (said : E → List ℕ → E → Type 0) (go : Go) (heap : is_size go.heap ≡ true) (stack : is_size go.stack ≡ true) (old new : Outside S E) (files : Option Files) (fetch_faults keep_faults : ℕ) (same : IfBothTold old.files files IsSame) (keeps : keep_faults ≡ old.keep_faults) (bytes : List ℕ) (loaded : Loaded) (ready : IsReady old.files go.src (sizes_of go) bytes loaded) where
-  abbrev mid : Outside S E
-  mid = fetched_from old files fetch_faults keep_faults
+    pub run_refused : (r : Refusal) (ended : Status) → IsIdle out → IsUnchanged f folder → ImageCause f folder img r → ended ≡ refusal_status r → Says e err (refusal_line img r) → RunOutcome f o e folder out err img bounds ended
+    run_refused r ended i u h is n = subst (λ (s : Status). RunOutcome f o e folder out err img bounds s) (sym is) (run_refused_so r i u h n)
 
-  compiled : IfBothTold files new.files (Puts go.img bytes) → IsCompiled old new go.src go.img ready.text bytes ready.built.image
-  compiled kept = record {
-    fetched = ready.fetched;
-    faithful = ready.built.faithful;
-    spelled = ready.built.spelled;
-    kept = puts_after_same old.files files new.files go.img bytes same kept;
-  }
+    module _ (same : IsUnchanged f folder) (loaded : Loaded) (h : IsFetchedProgram f folder img bounds.sizes loaded) where
+      answer_is : answer_on loaded bounds.steps ≡ answer h.image bounds.sizes bounds.steps
+      answer_is = ap (λ (l : Loaded). answer_on l bounds.steps) h.fresh_is
 
-  untouched : IsUntouched mid new → IsUntouched old new
-  untouched u = record { files = same_twice old.files files new.files same u.files; out = u.out }
+      ran : (ended : Status) → IsAnswered o e out err (answer h.image bounds.sizes bounds.steps) ended → IsRun f o e folder out err img bounds ended
+      ran ended a = record { bytes = h.fetched.bytes; image = h.image; given = h.fetched.given; spelled = h.fetched.spelled; unchanged = same; due = a }
 
-  answer_is : answer_on loaded go.steps ≡ answer ready.built.image (sizes_of go) go.steps
-  answer_is = ap (λ (l : Loaded). answer_on l go.steps) ready.built.fresh_is
+      run_cut : IsUnwritten o e out err (answer h.image bounds.sizes bounds.steps) → RunOutcome f o e folder out err img bounds status.WriteFault
+      run_cut u = record { bytes = h.fetched.bytes; image = h.image; given = h.fetched.given; spelled = h.fetched.spelled; unchanged = same; due = u }
 
-  ran : (ended : Status) → IfBothTold files new.files (Puts go.img bytes) → IsAnswered took said loaded go.steps (out_of mid new) (err_of mid new) ended → Ran took said go old new ended
-  ran ended kept a = record {
-    text = ready.text;
-    bytes = bytes;
-    image = ready.built.image;
-    compiled = compiled kept;
-    printed = subst (λ (x : Answer). took old.out x.out new.out) answer_is a.printed;
-    noted = subst (λ (x : Answer). Says said old new x.err) answer_is a.noted;
-    status_is = subst (λ (x : Answer). x.status ≡ ended) answer_is a.status_is;
-  }
+      abbrev RunsTo : Status → Type 0
+      RunsTo s = IsAnswered o e out err (answer h.image bounds.sizes bounds.steps) s → RunOutcome f o e folder out err img bounds s
 
-  cut_off : IfBothTold files new.files (Puts go.img bytes) → IsCutOff took said (answer_on loaded go.steps).out (out_of mid new) (err_of mid new) → IsUnwritten took said go old new
-  cut_off kept f = record {
-    cause = inr (record {
-      text = ready.text;
-      bytes = bytes;
-      image = ready.built.image;
-      compiled = compiled kept;
-      rose = f.rose;
-      front = subst (λ (x : Answer). TookFront took old.out x.out new.out) answer_is f.front;
-    });
-    noted = f.noted;
-  }
+      pub reported : (ended : Status) → Reports o e out err (answer_on loaded bounds.steps) ended → RunOutcome f o e folder out err img bounds ended
+      reported ended r =
+          ⊎_elim
+          (λ a. subst RunsTo a.status_is (by_end RunsTo (ran status.Done) (ran status.SourceFault) (ran status.HeapFull) (ran status.StackFull) (ran status.StepLimit) (ran status.MachineStop) (run h.image bounds.sizes bounds.steps).end) a)
+          (λ u. subst (λ (s : Status). RunOutcome f o e folder out err img bounds s) (sym u.1) (run_cut u.0))
+          (subst (λ (x : Answer). Reports o e out err x ended) answer_is r)
 
-  stopped : IsAnswered took said loaded go.steps (out_of mid new) (err_of mid new) status.MachineStop → ⊥
-  stopped a = never_stops ready.text bytes ready.built.image (sizes_of go) go.steps ready.built.faithful ready.built.spelled heap stack (subst (λ (x : Answer). x.status ≡ status.MachineStop) answer_is a.status_is)
+  -- ---- list
 
-  of_run : (ended : Status) → IfBothTold files new.files (Puts go.img bytes) → IsReported took said loaded go.steps (out_of mid new) (err_of mid new) ended → GoOutcome took said go old new ended
-  of_run status.Done kept r = ran status.Done kept r
-  of_run status.SourceFault kept r = ran status.SourceFault kept r
-  of_run status.HeapFull kept r = ran status.HeapFull kept r
-  of_run status.StackFull kept r = ran status.StackFull kept r
-  of_run status.StepLimit kept r = ran status.StepLimit kept r
-  of_run status.WriteFault kept r = cut_off kept r
-  of_run status.MachineStop kept r = stopped r
-  of_run status.FetchFault kept r = absurd (not_of_run status.FetchFault refl (run_on loaded go.steps).end r.status_is)
-  of_run status.LongFile kept r = absurd (not_of_run status.LongFile refl (run_on loaded go.steps).end r.status_is)
-  of_run status.Unbuilt kept r = absurd (not_of_run status.Unbuilt refl (run_on loaded go.steps).end r.status_is)
-  of_run status.Memory kept r = absurd (not_of_run status.Memory refl (run_on loaded go.steps).end r.status_is)
-  of_run status.Usage kept r = not_of_run status.Usage refl (run_on loaded go.steps).end r.status_is
-  of_run status.SourceRefused kept r = absurd (not_of_run status.SourceRefused refl (run_on loaded go.steps).end r.status_is)
-  of_run status.BadImage kept r = not_of_run status.BadImage refl (run_on loaded go.steps).end r.status_is
-  of_run status.Limit kept r = not_of_run status.Limit refl (run_on loaded go.steps).end r.status_is
+  module _ (img : List ℕ) where
+    list_refused_so : (r : Refusal) → IsIdle out → IsUnchanged f folder → ImageCause f folder img r → Says e err (refusal_line img r) → ListOutcome f o e folder out err img (refusal_status r)
+    list_refused_so refusal.Unread i u h n = (i, record { unchanged = u; noted = n; why = h })
+    list_refused_so refusal.Long i u h n = (i, record { unchanged = u; noted = n; why = h })
+    list_refused_so (refusal.Bad kind at) i u h n = (i, (kind, at, record { unchanged = u; noted = n; why = h }))
+    list_refused_so refusal.Memory i u h n = (i, record { unchanged = u; noted = n; why = tt })
+    list_refused_so (refusal.Source kind line column) i u h n = absurd h
+    list_refused_so refusal.Unbuilt i u h n = absurd h
+    list_refused_so refusal.Unkept i u h n = absurd h
 
-  of_failed : (ended : Status) → KeepFails said mid new ended → GoOutcome took said go old new ended
-  of_failed ended f = subst (λ (s : Status). GoOutcome took said go old new s) (sym f.status_is) (record {
-    cause = inl (record { rose = subst (λ (n : ℕ). Rose n new.keep_faults) keeps f.unkept.rose; untouched = untouched f.unkept.untouched });
-    noted = f.noted;
-  })
+    pub list_refused : (r : Refusal) (ended : Status) → IsIdle out → IsUnchanged f folder → ImageCause f folder img r → ended ≡ refusal_status r → Says e err (refusal_line img r) → ListOutcome f o e folder out err img ended
+    list_refused r ended i u h is n = subst (λ (s : Status). ListOutcome f o e folder out err img s) (sym is) (list_refused_so r i u h n)
 
-  of_no_memory : (ended : Status) → KeepLacksMemory said mid new ended → GoOutcome took said go old new ended
-  of_no_memory ended f = subst (λ (s : Status). GoOutcome took said go old new s) (sym f.status_is) (record { untouched = untouched f.untouched; noted = f.noted })
+    module _ (same : IsUnchanged f folder) (text : List ℕ) (h : IsFetchedListing f folder img text) where
+      shown : (IsAnswered o e out err (listing_answer h.image) status.Done) → ListOutcome f o e folder out err img status.Done
+      shown a = record { bytes = h.fetched.bytes; image = h.image; given = h.fetched.given; spelled = h.fetched.spelled; unchanged = same; due = a }
 
-  pub went : (ended : Status) → KeptOutcome took said go.img bytes loaded go.steps mid new ended → GoOutcome took said go old new ended
-  went ended h = ⊎_elim (λ r. of_run ended r.kept r.reported) (λ k. ⊎_elim (λ f. of_failed ended f) (λ f. of_no_memory ended f) k) h
+      list_cut : IsUnwritten o e out err (listing_answer h.image) → ListOutcome f o e folder out err img status.WriteFault
+      list_cut u = record { bytes = h.fetched.bytes; image = h.image; given = h.fetched.given; spelled = h.fetched.spelled; unchanged = same; due = u }
 
--- a text was refused before anything was kept or put
-refused_so : {S E : Type 0} (took : S → List ℕ → S → Type 0) (said : E → List ℕ → E → Type 0) (go : Go) (old new : Outside S E) (r : Refusal) → Refuses old.files go.src (Rose old.fetch_faults new.fetch_faults) r → IsUntouched old new → Says said old new (refusal_line go.src r) → GoOutcome took said go old new (refusal_status r)
-refused_so took said go old new refusal.Unread h u n = record { rose = h; untouched = u; noted = n }
-refused_so took said go old new refusal.Long h u n = record { long = h; untouched = u; noted = n }
-refused_so took said go old new (refusal.Source kind line column) h u n =
-    record { text = h.0; kind = kind; line = line; column = column; fetched = h.1; fault = h.2; untouched = u; noted = n }
-refused_so took said go old new refusal.Unbuilt h u n = record { text = h.0; fetched = h.1; unbuilt = h.2; untouched = u; noted = n }
-refused_so took said go old new refusal.Memory h u n = record { untouched = u; noted = n }
+      abbrev ListsTo : Status → Type 0
+      ListsTo s = IsAnswered o e out err (listing_answer h.image) s → ListOutcome f o e folder out err img s
 
-pub refused : {S E : Type 0} (took : S → List ℕ → S → Type 0) (said : E → List ℕ → E → Type 0) (go : Go) (old new : Outside S E) (r : Refusal) (ended : Status) → ended ≡ refusal_status r → Refuses old.files go.src (Rose old.fetch_faults new.fetch_faults) r → IsUntouched old new → Says said old new (refusal_line go.src r) → GoOutcome took said go old new ended
-refused took said go old new r ended is h u n = subst (λ (s : Status). GoOutcome took said go old new s) (sym is) (refused_so took said go old new r h u n)
+      pub listed : (ended : Status) → Reports o e out err (printed text) ended → ListOutcome f o e folder out err img ended
+      listed ended r =
+          ⊎_elim
+          (λ a. subst ListsTo a.status_is shown a)
+          (λ u. subst (λ (s : Status). ListOutcome f o e folder out err img s) (sym u.1) (list_cut u.0))
+          (subst (λ (l : List ℕ). Reports o e out err (printed l) ended) h.listed r)
+
+  -- ---- go
+
+  module _ (src img : List ℕ) (bounds : Bounds) where
+    go_refused_so : (r : Refusal) → IsIdle out → IsUnchanged f folder → CompileCause f folder src r → Says e err (refusal_line src r) → GoOutcome f o e folder out err src img bounds (refusal_status r)
+    go_refused_so refusal.Unread i u h n = (i, compile_refused_so f e folder err src img refusal.Unread u h n)
+    go_refused_so refusal.Long i u h n = (i, compile_refused_so f e folder err src img refusal.Long u h n)
+    go_refused_so (refusal.Source kind line column) i u h n = (i, compile_refused_so f e folder err src img (refusal.Source kind line column) u h n)
+    go_refused_so (refusal.Bad kind at) i u h n = absurd h
+    go_refused_so refusal.Unbuilt i u h n = (i, compile_refused_so f e folder err src img refusal.Unbuilt u h n)
+    go_refused_so refusal.Unkept i u h n = inr (i, compile_refused_so f e folder err src img refusal.Unkept u h n)
+    go_refused_so refusal.Memory i u h n = (i, compile_refused_so f e folder err src img refusal.Memory u h n)
+
+    pub go_refused : (r : Refusal) (ended : Status) → IsIdle out → IsUnchanged f folder → CompileCause f folder src r → ended ≡ refusal_status r → Says e err (refusal_line src r) → GoOutcome f o e folder out err src img bounds ended
+    go_refused r ended i u h is n = subst (λ (s : Status). GoOutcome f o e folder out err src img bounds s) (sym is) (go_refused_so r i u h n)
+
+    module _ (sized : AreSizes bounds.sizes) (bytes : List ℕ) (compiled : IsCompiled f folder src img bytes) (loaded : Loaded) (h : IsProgram bytes bounds.sizes loaded) where
+      go_answer_is : answer_on loaded bounds.steps ≡ answer h.image bounds.sizes bounds.steps
+      go_answer_is = ap (λ (l : Loaded). answer_on l bounds.steps) h.fresh_is
+
+      kept_and_ran : (ended : Status) → IsAnswered o e out err (answer h.image bounds.sizes bounds.steps) ended → IsKeptAndRun f o e folder out err src img bounds ended
+      kept_and_ran ended a = record { bytes = bytes; image = h.image; compiled = compiled; spelled = h.spelled; due = a }
+
+      go_cut : IsUnwritten o e out err (answer h.image bounds.sizes bounds.steps) → GoOutcome f o e folder out err src img bounds status.WriteFault
+      go_cut u = inl (record { bytes = bytes; image = h.image; compiled = compiled; spelled = h.spelled; due = u })
+
+      abbrev GoesTo : Status → Type 0
+      GoesTo s = IsAnswered o e out err (answer h.image bounds.sizes bounds.steps) s → GoOutcome f o e folder out err src img bounds s
+
+      stopped : GoesTo status.MachineStop
+      stopped a = never_stops compiled.text bytes h.image bounds compiled.faithful h.spelled sized a.status_is
+
+      pub went : (ended : Status) → Reports o e out err (answer_on loaded bounds.steps) ended → GoOutcome f o e folder out err src img bounds ended
+      went ended r =
+          ⊎_elim
+          (λ a. subst GoesTo a.status_is (by_end GoesTo (kept_and_ran status.Done) (kept_and_ran status.SourceFault) (kept_and_ran status.HeapFull) (kept_and_ran status.StackFull) (kept_and_ran status.StepLimit) stopped (run h.image bounds.sizes bounds.steps).end) a)
+          (λ u. subst (λ (s : Status). GoOutcome f o e folder out err src img bounds s) (sym u.1) (go_cut u.0))
+          (subst (λ (x : Answer). Reports o e out err x ended) go_answer_is r)

@@ -1,35 +1,24 @@
 -- What is put of a run, where a put fails and where none does.
-use Rattle.std.proofs.Common.{◌≡◌, ℕ, ◌+◌, ◌-◌, ◌≤◌, ◌<◌, List, [], ◌++◌, Option, None, sym, ap, ◌∙◌, subst, arith, append_assoc}
+use Rattle.std.proofs.Common.{◌≡◌, ℕ, ◌+◌, ◌-◌, ◌≤◌, ◌<◌, List, [], ◌++◌, Option, Some, None, Result, Ok, Err, sym, ap, ◌∙◌, subst, inl, inr, ⊎_elim, arith, append_assoc, append-nil}
+use Rattle.std.specs.Prelude.{OnOk, OnErr}
+use Rattle.t_base.specs.declared.faults.Face.{Face}
+use Rattle.t_ports.specs.declared.ports.Sink.{Ghosts as SinkOf}
 use Rattle.t_ports.specs.Causes.{Rose}
 use Rattle.t_ports.specs.Pieces.{TookFront}
 use Rattle.program_runs.specs.Runs.{IsPrefix}
 use Rattle.orbit_monitor.specs.declared.end.Exit.{Exit}
+use Rattle.orbit_monitor.specs.declared.end.Exit.TheVariants.{Done}
+use Rattle.orbit_monitor.specs.Observed.{shown_of}
 use Rattle.orbit_monitor.specs.Run.{Progress, act, followed, run_from}
 use Rattle.orbit_monitor.specs.Answering.{Loaded, run_on, last_after, FailsAtPut}
 use Rattle.orbit_monitor.proofs.Runs.{run_from-next, run_from-add, run_from-grows, further-going}
 use Rattle.orbit_cli.specs.declared.status.Status.{Status}
 use Rattle.orbit_cli.specs.declared.status.Status.TheVariants as status
-use Rattle.orbit_cli.specs.Answer.{answer_at, answer_on, value_text, end_line, end_status}
-use Rattle.orbit_cli.specs.Parts.{IfUnwritten, Change, change, Notes, IsAnswered, IsCutOff, IsReported, IsHalted, Halts}
-
--- ---- statuses
-
-pub map_unwritten : {p q p' q' : Type 0} (s : Status) → (p → p') → (q → q') → IfUnwritten s p q → IfUnwritten s p' q'
-map_unwritten status.WriteFault f g h = f h
-map_unwritten status.Done f g h = g h
-map_unwritten status.Usage f g h = g h
-map_unwritten status.SourceRefused f g h = g h
-map_unwritten status.SourceFault f g h = g h
-map_unwritten status.HeapFull f g h = g h
-map_unwritten status.StackFull f g h = g h
-map_unwritten status.StepLimit f g h = g h
-map_unwritten status.BadImage f g h = g h
-map_unwritten status.FetchFault f g h = g h
-map_unwritten status.Memory f g h = g h
-map_unwritten status.Limit f g h = g h
-map_unwritten status.MachineStop f g h = g h
-map_unwritten status.LongFile f g h = g h
-map_unwritten status.Unbuilt f g h = g h
+use Rattle.orbit_cli.specs.Lines.{shown_text, value_line}
+use Rattle.orbit_cli.specs.Answer.{Answer, answer_at, answer_on, value_text, end_line, end_status, printed}
+use Rattle.orbit_cli.specs.Changes.{Change, change, PutFailed, Says}
+use Rattle.orbit_cli.specs.Outcome.{IsAnswered}
+use Rattle.orbit_cli.specs.Parts.{Reports}
 
 -- a count that rose from a later one rose from an earlier one
 rose_from : (a b c : ℕ) → a ≤ b → Rose b c → Rose a c
@@ -55,51 +44,64 @@ regroup a b c d e =
     ∙ ap (λ (l : List ℕ). l ++ (d ++ e)) (sym (append_assoc a b c))
     ∙ append_assoc (a ++ b) c (d ++ e)
 
-module _ {S E : Type 0} (took : S → List ℕ → S → Type 0) (both : (a b c : S) (first second : List ℕ) → took a first b → took b second c → took a (first ++ second) c) (said : E → List ℕ → E → Type 0) (nothing : (e : E) → said e [] e) where
-  -- a put of a service failed
-  pub service_cut_off : (b c : Loaded) (steps : ℕ) (old new : S) → FailsAtPut took b steps c old new → TookFront took old (answer_on b steps).out new
-  service_cut_off b c steps old new f =
-      let split = output_split b f.before steps f.within f.going in
-      let line : List ℕ = value_text b.names (last_after b.last (run_on b steps).output) (run_on b steps).end in
-      let put : List ℕ = (run_on b f.before).output in (
-        put ++ f.front,
-        f.rest ++ (split.0 ++ line),
-        ap (λ (l : List ℕ). l ++ line) split.1
-            ∙ ap (λ (l : List ℕ). ((put ++ l) ++ split.0) ++ line) f.due
-            ∙ regroup put f.front f.rest split.0 line,
-        f.given,
-      )
+-- a put of a service failed
+pub service_cut_off : {S : Type 0} (took : S → List ℕ → S → Type 0) (b c : Loaded) (steps : ℕ) (old new : S) → FailsAtPut took b steps c old new → TookFront took old (answer_on b steps).out new
+service_cut_off took b c steps old new f =
+    let split = output_split b f.before steps f.within f.going in
+    let line : List ℕ = value_text b.names (last_after b.last (run_on b steps).output) (run_on b steps).end in
+    let put : List ℕ = (run_on b f.before).output in (
+      put ++ f.front,
+      f.rest ++ (split.0 ++ line),
+      ap (λ (l : List ℕ). l ++ line) split.1
+          ∙ ap (λ (l : List ℕ). ((put ++ l) ++ split.0) ++ line) f.due
+          ∙ regroup put f.front f.rest split.0 line,
+      f.given,
+    )
 
-  -- a put of the value's line failed
-  line_cut_off : (output line : List ℕ) (old mid new : S) → took old output mid → TookFront took mid line new → TookFront took old (output ++ line) new
-  line_cut_off output line old mid new t f =
-      (output ++ f.0, f.1, ap (λ (l : List ℕ). output ++ l) f.2 ∙ sym (append_assoc output f.0 f.1), both old mid new output f.0 t f.3)
+module _ {S E : Type 0} (o : SinkOf S) (e : SinkOf E) where
+  -- a line was put, or a put failed
+  says : {T D : Type 0} (err : Change E) (line : List ℕ) (r : Result T D) → OnOk r (e.took err.old line err.new) → OnErr r (PutFailed e err) → Says e err line
+  says err line (Ok x) taken failed = λ quiet. taken
+  says err line (Err x) taken failed = λ quiet. absurd (quiet failed)
 
-  -- a run ended so, and this was put
-  pub answered : (b : Loaded) (steps : ℕ) (end : Option Exit) (out : Change S) (err : Change E) (ended : Status) → (run_on b steps).end ≡ end → took out.old (answer_at b (run_on b steps).output end steps).out out.new → Notes said err (end_line steps end) → end_status end ≡ ended → IsAnswered took said b steps out err ended
-  answered b steps end out err ended same printed noted status_is =
-      subst (λ (o : Option Exit). took out.old (answer_at b (run_on b steps).output o steps).out out.new → Notes said err (end_line steps o) → end_status o ≡ ended → IsAnswered took said b steps out err ended) same
-      (λ p n s. record { printed = p; noted = n; status_is = s })
-      printed noted status_is
+  -- a run ended so, without a value, and its line was put
+  pub ended_so : {T D : Type 0} (b : Loaded) (steps : ℕ) (end : Option Exit) (out : Change S) (err : Change E) (ended : Status) (r : Result T D)
+      → (run_on b steps).end ≡ end → value_text b.names (last_after b.last (run_on b steps).output) end ≡ [] → end_status end ≡ ended → (ended ≡ status.Done → ⊥)
+      → o.took out.old (run_on b steps).output out.new → OnOk r (e.took err.old (end_line steps end) err.new) → OnErr r (PutFailed e err)
+      → Reports o e out err (answer_on b steps) ended
+  ended_so b steps end out err ended r same no_text status_is not_done taken ok failed =
+      let put : List ℕ = (run_on b steps).output in
+      let whole : answer_at b put end steps ≡ answer_on b steps = ap (λ (x : Option Exit). answer_at b put x steps) (sym same) in
+      let no_line : put ≡ put ++ value_text b.names (last_after b.last put) end = sym (append-nil put) ∙ ap (λ (l : List ℕ). put ++ l) (sym no_text) in
+      inl (subst (λ (a : Answer). IsAnswered o e out err a ended) whole (record {
+        printed = subst (λ (l : List ℕ). o.took out.old l out.new) no_line taken;
+        noted = says err (end_line steps end) r ok failed;
+        silent = λ done. absurd (not_done done);
+        status_is = status_is;
+      }))
 
-  -- a run halted, and its line was put or cut off
-  pub halted : (b : Loaded) (steps : ℕ) (end : Option Exit) (line : List ℕ) (old mid new : S) (old_faults mid_faults new_faults : ℕ) (err : Change E) (ended : Status)
-      → (run_on b steps).end ≡ end → value_text b.names (last_after b.last (run_on b steps).output) end ≡ line → end_line steps end ≡ [] → end_status end ≡ status.Done
-      → took old (run_on b steps).output mid → old_faults ≤ mid_faults
-      → Halts took said line (change mid mid_faults new new_faults) err ended → IsReported took said b steps (change old old_faults new new_faults) err ended
-  halted b steps end line old mid new old_faults mid_faults new_faults err ended same line_is silent_is done_is t later h =
-      map_unwritten ended
-      (λ (f : IsCutOff took said line (change mid mid_faults new new_faults) err). record {
-        rose = rose_from old_faults mid_faults new_faults later f.rose;
-        front = subst (λ (l : List ℕ). TookFront took old l new) out_is (line_cut_off (run_on b steps).output line old mid new t f.front);
-        noted = f.noted;
-      })
-      (λ (a : IsHalted took line (change mid mid_faults new new_faults) err ended).
-      answered b steps end (change old old_faults new new_faults) err ended same
-      (subst (λ (l : List ℕ). took old ((run_on b steps).output ++ l) new) (sym line_is) (both old mid new (run_on b steps).output line t a.printed))
-      (λ quiet. subst (λ (l : List ℕ). said err.old l err.new) (sym silent_is) (subst (λ (e : E). said err.old [] e) (sym a.silent) (nothing err.old)))
-      (done_is ∙ sym a.status_is))
-      h
-    where
-      out_is : (run_on b steps).output ++ line ≡ (answer_on b steps).out
-      out_is = ap (λ (l : List ℕ). (run_on b steps).output ++ l) (sym line_is) ∙ ap (λ (o : Option Exit). (answer_at b (run_on b steps).output o steps).out) (sym same)
+  module _ (both : (a b c : S) (first second : List ℕ) → o.took a first b → o.took b second c → o.took a (first ++ second) c) (old mid new : S) where
+    -- a put of the value's line failed
+    line_cut_off : (output line : List ℕ) → o.took old output mid → TookFront o.took mid line new → TookFront o.took old (output ++ line) new
+    line_cut_off output line t f =
+        (output ++ f.0, f.1, ap (λ (l : List ℕ). output ++ l) f.2 ∙ sym (append_assoc output f.0 f.1), both old mid new output f.0 t f.3)
+
+    -- a run halted, and its line was put or cut off
+    pub halted : (b : Loaded) (steps : ℕ) (face : Face) (line : List ℕ) (err : Change E) (ended : Status)
+        → (run_on b steps).end ≡ Some (Done face) → line ≡ value_line (last_after b.last (run_on b steps).output) (shown_text (shown_of b.names face))
+        → o.took old (run_on b steps).output mid → o.faults old ≤ o.faults mid
+        → Reports o e (change mid new) err (printed line) ended → Reports o e (change old new) err (answer_on b steps) ended
+    halted b steps face line err ended same line_is t later h =
+        let put : List ℕ = (run_on b steps).output in
+        let whole : printed (put ++ line) ≡ answer_on b steps = ap (λ (l : List ℕ). printed (put ++ l)) line_is ∙ ap (λ (x : Option Exit). answer_at b put x steps) (sym same) in
+        subst (λ (a : Answer). Reports o e (change old new) err a ended) whole
+        (⊎_elim
+        (λ a. inl (record { printed = both old mid new put line t a.printed; noted = a.noted; silent = a.silent; status_is = a.status_is }))
+        (λ u. inr (
+          record {
+            cut = record { failed = rose_from (o.faults old) (o.faults mid) (o.faults new) later u.0.cut.failed; front = line_cut_off put line t u.0.cut.front };
+            noted = u.0.noted;
+          },
+          u.1,
+        ))
+        h)

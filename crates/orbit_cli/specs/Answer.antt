@@ -1,7 +1,8 @@
--- The answer of a run: what is put out, the line of its end, and the status.
+-- What is put of an image: the answer of its run, or its listing.
 use Rattle.std.specs.Prelude.{ℕ, Bool, true, false, List, [], ◌++◌, Option, Some, None}
 use Rattle.m68020_step.specs.declared.machine.Sizes.{Sizes}
 use Rattle.image_file.specs.Grammar.{Parts}
+use Rattle.orbit_tools.specs.Listing.{listing_of}
 use Rattle.orbit_monitor.specs.declared.end.Exit.{Exit}
 use Rattle.orbit_monitor.specs.declared.end.Exit.TheVariants as exit
 use Rattle.orbit_monitor.specs.Observed.{shown_of}
@@ -10,6 +11,7 @@ use Rattle.orbit_cli.specs.declared.status.Status.{Status}
 use Rattle.orbit_cli.specs.declared.status.Status.TheVariants as status
 use Rattle.orbit_cli.specs.Lines.{shown_text, value_line, fault_line, full_line, limit_line, stop_line}
 
+-- what is put to out, the line that is put to err, and the status
 pub record Answer : Type 0 where
   pub out : List ℕ
   pub err : List ℕ
@@ -57,3 +59,10 @@ answer_on b steps = answer_at b (run_on b steps).output (run_on b steps).end ste
 -- of an image
 abbrev pub answer : Parts → Sizes → ℕ → Answer
 answer image sizes steps = answer_on (fresh image sizes) steps
+
+-- of what is put without a run
+abbrev pub printed : List ℕ → Answer
+printed text = record { out = text; err = []; status = status.Done }
+
+abbrev pub listing_answer : Parts → Answer
+listing_answer image = printed (listing_of image.code)

@@ -1,8 +1,6 @@
 pub mod Answer
+pub mod Changes
 pub mod Command
-pub mod ImageOutcome
-pub mod ImageParts
-pub mod ImageWords
 pub mod Lines
 pub mod Outcome
 pub mod Parts

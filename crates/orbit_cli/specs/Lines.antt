@@ -7,6 +7,8 @@ use Rattle.t_base.specs.declared.faults.Fault.TheVariants.{NotProcedure, WrongCo
 use Rattle.program_runs.specs.Runs.{Shown, Fixnum, Character, EmptyList, Truth, Symbol, Kind}
 use Rattle.t_reader.specs.declared.fault.ReadKind.{ReadKind}
 use Rattle.t_reader.specs.declared.fault.ReadKind.TheVariants.{BadByte, Unclosed, ExtraClose, FixnumRange, BadHash, BadString, LoneDot, TooDeep}
+use Rattle.image_file.specs.declared.fault.ImageKind.{ImageKind}
+use Rattle.image_file.specs.declared.fault.ImageKind.TheVariants.{Magic, Version, Short, Long, Field}
 use Rattle.m68020_step.specs.declared.registers.Why.{Why}
 use Rattle.m68020_step.specs.declared.registers.Why.TheVariants.{Illegal, BadAddress, OddAddress, ZeroDivide, BadService}
 
@@ -130,6 +132,21 @@ located_line src line column refusal = src ++ (codes ":" ++ (line ++ (codes ":" 
 
 abbrev pub source_line : List ℕ → ℕ → ℕ → ReadKind → List ℕ
 source_line src line column kind = located_line src (decimal line) (decimal column) (read_kind_name kind)
+
+-- the refusals of bytes that are no image, as they are printed
+abbrev pub image_kind_name : ImageKind → List ℕ
+image_kind_name Magic = codes "I1 Magic"
+image_kind_name Version = codes "I2 Version"
+image_kind_name Short = codes "I3 Short"
+image_kind_name Long = codes "I4 Long"
+image_kind_name Field = codes "I5 Field"
+
+-- of such bytes: their name, what fails first, and at which byte
+abbrev pub place_line : List ℕ → List ℕ → List ℕ → List ℕ
+place_line img refusal at = img ++ (codes ": " ++ (refusal ++ (codes " at " ++ (at ++ codes "\n"))))
+
+abbrev pub bad_image_line : List ℕ → ImageKind → ℕ → List ℕ
+bad_image_line img kind at = place_line img (image_kind_name kind) (decimal at)
 
 abbrev pub usage_line : List ℕ
 usage_line = codes "usage: orbit compile SRC IMG | run IMG HEAP STACK STEPS | go SRC IMG HEAP STACK STEPS | check SRC | list IMG | trial N STEPS\n"

@@ -1,168 +1,178 @@
 -- What a command comes to: by its status, what stands on the sinks, what the folder holds, and why.
-use Rattle.std.specs.Prelude.{◌≡◌, ℕ, ◌^◌, ◌<◌, ◌≤◌, ◌⊎◌, List, length, Option, Some, None}
-use Rattle.t_ports.specs.Causes.{Rose}
-use Rattle.t_ports.specs.Files.{Files, IfTold, IfBothTold, IsSame, Puts}
-use Rattle.t_ports.specs.Pieces.{TookFront}
+use Rattle.std.specs.Prelude.{◌≡◌, ℕ, ◌^◌, ◌⊎◌, List, Option, Some, None, Err}
+use Rattle.t_ports.specs.declared.ports.Folder.{Ghosts as FolderOf}
+use Rattle.t_ports.specs.declared.ports.Sink.{Ghosts as SinkOf}
 use Rattle.t_base.specs.declared.basics.Span.{Span}
 use Rattle.t_base.specs.Lines.{line_of, column_of}
 use Rattle.t_reader.specs.declared.fault.ReadKind.{ReadKind}
 use Rattle.t_reader.specs.declared.fault.ReadFault.TheVariants as faults
-use Rattle.t_reader.specs.Grammar.{FirstFault}
-use Rattle.m68020_step.specs.declared.machine.Sizes.{Sizes}
+use Rattle.t_reader.specs.Grammar.{Tree, Reads, FirstFault}
+use Rattle.image_file.specs.declared.fault.ImageKind.{ImageKind}
 use Rattle.image_file.specs.Grammar.{Parts, IsImageOf}
+use Rattle.image_file.specs.Reading.{image_at}
 use Rattle.orbit_build.specs.Grammar.{ReadsWithoutUnit}
 use Rattle.orbit_build.specs.Faithful.{Faithful}
+use Rattle.orbit_cli.specs.declared.words.Bounds.{Bounds}
 use Rattle.orbit_cli.specs.declared.status.Status.{Status}
 use Rattle.orbit_cli.specs.declared.status.Status.TheVariants as status
-use Rattle.orbit_cli.specs.Words.{Go, command_of}
-use Rattle.orbit_cli.specs.Lines.{usage_line, source_line, unread_line, long_line, write_line, memory_line, unbuilt_line}
-use Rattle.orbit_cli.specs.Answer.{answer}
+use Rattle.orbit_cli.specs.Words.{Command, Compile, Run, Go, Check, Listing, command_of}
+use Rattle.orbit_cli.specs.Lines.{usage_line, source_line, bad_image_line, unread_line, long_line, write_line, memory_line, unbuilt_line}
+use Rattle.orbit_cli.specs.Changes.{Change, IsIdle, Says, IsCut, FetchFailed, KeepFailed, IsUnchanged, Keeps, Gives, HasMore, GivesSuch}
+use Rattle.orbit_cli.specs.Answer.{Answer, answer, listing_answer}
 
--- what is outside: the folder's files, where it tells them, its two counts of faults, and the two sinks with theirs
-pub record Outside (S E : Type 0) : Type 0 where
-  pub files : Option Files
-  pub fetch_faults : ℕ
-  pub keep_faults : ℕ
-  pub out : S
-  pub out_faults : ℕ
-  pub err : E
-  pub err_faults : ℕ
+-- most bytes of a text, and of an image
+abbrev pub most_text : ℕ
+most_text = 2 ^ 20
 
-abbrev pub outside : {S E : Type 0} → Option Files → ℕ → ℕ → S → ℕ → E → ℕ → Outside S E
-outside files fetch_faults keep_faults out out_faults err err_faults =
-    record { files = files; fetch_faults = fetch_faults; keep_faults = keep_faults; out = out; out_faults = out_faults; err = err; err_faults = err_faults }
+abbrev pub most_image : ℕ
+most_image = 2 ^ 29
 
--- most bytes of a text
-abbrev pub most_bytes : ℕ
-most_bytes = 2 ^ 20
-
--- nothing was kept, and nothing was put to out
-pub record IsUntouched {S E : Type 0} (old new : Outside S E) : Type 0 where
-  pub files : IfBothTold old.files new.files IsSame
-  pub out : new.out ≡ old.out
-
--- err took exactly the line, where no put to it failed
-abbrev pub Says : {S E : Type 0} → (E → List ℕ → E → Type 0) → Outside S E → Outside S E → List ℕ → Type 0
-Says said old new line = (Rose old.err_faults new.err_faults → ⊥) → said old.err line new.err
-
--- a folder with these files gave the text, which is not too long
-pub record IsFetched (told_files : Option Files) (name text : List ℕ) : Type 0 where
-  pub told : IfTold told_files (λ files. files name ≡ Some text)
-  pub short : length text ≤ most_bytes
-
--- the image of the text was kept under its name, and no other name was touched
-pub record IsCompiled {S E : Type 0} (old new : Outside S E) (src img text bytes : List ℕ) (image : Parts) : Type 0 where
-  pub fetched : IsFetched old.files src text
-  pub faithful : Faithful text bytes
-  pub spelled : IsImageOf bytes image
-  pub kept : IfBothTold old.files new.files (Puts img bytes)
-
-abbrev pub sizes_of : Go → Sizes
-sizes_of go = record { heap = go.heap; stack = go.stack }
-
--- the very bytes that were kept were run, and out, err and the status are the answer of their run
-pub record Ran {S E : Type 0} (took : S → List ℕ → S → Type 0) (said : E → List ℕ → E → Type 0) (go : Go) (old new : Outside S E) (ended : Status) : Type 0 where
-  pub text : List ℕ
-  pub bytes : List ℕ
-  pub image : Parts
-  pub compiled : IsCompiled old new go.src go.img text bytes image
-  pub printed : took old.out (answer image (sizes_of go) go.steps).out new.out
-  pub noted : Says said old new (answer image (sizes_of go) go.steps).err
-  pub status_is : (answer image (sizes_of go) go.steps).status ≡ ended
-
--- the folder's count of failed fetches rose
-pub record IsUnread {S E : Type 0} (said : E → List ℕ → E → Type 0) (src : List ℕ) (old new : Outside S E) : Type 0 where
-  pub rose : Rose old.fetch_faults new.fetch_faults
-  pub untouched : IsUntouched old new
-  pub noted : Says said old new (unread_line src)
-
--- a folder with these files has more bytes under the name than the program takes
-abbrev pub IsOver : Option Files → List ℕ → Type 0
-IsOver told_files name = IfTold told_files (λ files. (text : List ℕ) × (files name ≡ Some text) × (most_bytes < length text))
-
--- the text has more bytes than the program takes
-pub record IsLong {S E : Type 0} (said : E → List ℕ → E → Type 0) (src : List ℕ) (old new : Outside S E) : Type 0 where
-  pub long : IsOver old.files src
-  pub untouched : IsUntouched old new
-  pub noted : Says said old new (long_line src)
+-- ---- texts
 
 -- the first fault of the text is of this kind, and stands at this line and column
-pub record HasFault (text : List ℕ) (kind : ReadKind) (line column : ℕ) : Type 0 where
+pub record HasFault (kind : ReadKind) (line column : ℕ) (text : List ℕ) : Type 0 where
   pub span : Span
   pub first : FirstFault text (faults.Fault kind span)
   pub line_is : line ≡ line_of text span.start
   pub column_is : column ≡ column_of text span.start
 
--- the text has a fault of the grammar, and the line says which and where
-pub record IsRefused {S E : Type 0} (said : E → List ℕ → E → Type 0) (src : List ℕ) (old new : Outside S E) : Type 0 where
+abbrev pub HasReading : List ℕ → Type 0
+HasReading text = (trees : List Tree) × Reads text trees
+
+abbrev pub HasImage : List ℕ → Type 0
+HasImage text = (bytes : List ℕ) × Faithful text bytes
+
+-- the bytes are an image of the text that the folder has under the one name, and were kept under the other
+pub record IsCompiled {F : Type 0} (f : FolderOf F) (folder : Change F) (src img bytes : List ℕ) : Type 0 where
   pub text : List ℕ
-  pub kind : ReadKind
-  pub line : ℕ
-  pub column : ℕ
-  pub fetched : IsFetched old.files src text
-  pub fault : HasFault text kind line column
-  pub untouched : IsUntouched old new
-  pub noted : Says said old new (source_line src line column kind)
+  pub given : Gives f folder most_text src text
+  pub faithful : Faithful text bytes
+  pub kept : Keeps f folder img bytes
 
--- the text has a reading, and no unit that is built so far is spelled so
-pub record IsUnbuilt {S E : Type 0} (said : E → List ℕ → E → Type 0) (src : List ℕ) (old new : Outside S E) : Type 0 where
-  pub text : List ℕ
-  pub fetched : IsFetched old.files src text
-  pub unbuilt : ReadsWithoutUnit text
-  pub untouched : IsUntouched old new
-  pub noted : Says said old new unbuilt_line
+-- ---- what a command does to the folder and to err
 
--- want of memory has no cause
-pub record IsOutOfMemory {S E : Type 0} (said : E → List ℕ → E → Type 0) (old new : Outside S E) : Type 0 where
-  pub untouched : IsUntouched old new
-  pub noted : Says said old new memory_line
+module _ {F E : Type 0} (f : FolderOf F) (e : SinkOf E) (folder : Change F) (err : Change E) where
+  -- nothing was kept, err took the line, and this is why
+  pub record IsRefused (line : List ℕ) (cause : Type 0) : Type 0 where
+    pub unchanged : IsUnchanged f folder
+    pub noted : Says e err line
+    pub why : cause
 
--- the folder's count of failed keeps rose, and nothing was put
-pub record IsNotKept {S E : Type 0} (old new : Outside S E) : Type 0 where
-  pub rose : Rose old.keep_faults new.keep_faults
-  pub untouched : IsUntouched old new
+  -- by the status, why a text came to nothing. For some texts there is no answer yet.
+  abbrev pub TextRefused : (List ℕ → Type 0) → List ℕ → Status → Type 0
+  TextRefused IsUnbuilt src status.FetchFault = IsRefused (unread_line src) (FetchFailed f folder)
+  TextRefused IsUnbuilt src status.LongFile = IsRefused (long_line src) (HasMore f folder most_text src)
+  TextRefused IsUnbuilt src status.SourceRefused =
+      (kind : ReadKind) × (line : ℕ) × (column : ℕ) × IsRefused (source_line src line column kind) (GivesSuch f folder most_text src (HasFault kind line column))
+  TextRefused IsUnbuilt src status.Unbuilt = IsRefused unbuilt_line (GivesSuch f folder most_text src IsUnbuilt)
+  TextRefused IsUnbuilt src status.Memory = IsRefused memory_line (Unit {0})
+  TextRefused IsUnbuilt src _ = ⊥
 
--- a put to out failed, behind a front of what was due
-pub record IsNotPut {S E : Type 0} (took : S → List ℕ → S → Type 0) (go : Go) (old new : Outside S E) : Type 0 where
-  pub text : List ℕ
-  pub bytes : List ℕ
-  pub image : Parts
-  pub compiled : IsCompiled old new go.src go.img text bytes image
-  pub rose : Rose old.out_faults new.out_faults
-  pub front : TookFront took old.out (answer image (sizes_of go) go.steps).out new.out
+  -- by the status, why an image came to nothing
+  abbrev pub ImageRefused : List ℕ → Status → Type 0
+  ImageRefused img status.FetchFault = IsRefused (unread_line img) (FetchFailed f folder)
+  ImageRefused img status.LongFile = IsRefused (long_line img) (HasMore f folder most_image img)
+  ImageRefused img status.BadImage =
+      (kind : ImageKind) × (at : ℕ) × IsRefused (bad_image_line img kind at) (GivesSuch f folder most_image img (λ bytes. image_at bytes ≡ Err (kind, at)))
+  ImageRefused img status.Memory = IsRefused memory_line (Unit {0})
+  ImageRefused img _ = ⊥
 
-pub record IsUnwritten {S E : Type 0} (took : S → List ℕ → S → Type 0) (said : E → List ℕ → E → Type 0) (go : Go) (old new : Outside S E) : Type 0 where
-  pub cause : IsNotKept old new ⊎ IsNotPut took go old new
-  pub noted : Says said old new write_line
+  -- of `compile`, which puts nothing to out
+  abbrev pub CompileOutcome : List ℕ → List ℕ → Status → Type 0
+  CompileOutcome src img status.Done = IsIdle err × ((bytes : List ℕ) × IsCompiled f folder src img bytes)
+  CompileOutcome src img status.WriteFault = IsRefused write_line (KeepFailed f folder × GivesSuch f folder most_text src HasImage)
+  CompileOutcome src img ended = TextRefused ReadsWithoutUnit src ended
 
--- of `go`, by its status
-abbrev pub GoOutcome : {S E : Type 0} → (S → List ℕ → S → Type 0) → (E → List ℕ → E → Type 0) → Go → Outside S E → Outside S E → Status → Type 0
-GoOutcome took said go old new status.Done = Ran took said go old new status.Done
-GoOutcome took said go old new status.SourceFault = Ran took said go old new status.SourceFault
-GoOutcome took said go old new status.HeapFull = Ran took said go old new status.HeapFull
-GoOutcome took said go old new status.StackFull = Ran took said go old new status.StackFull
-GoOutcome took said go old new status.StepLimit = Ran took said go old new status.StepLimit
-GoOutcome took said go old new status.FetchFault = IsUnread said go.src old new
-GoOutcome took said go old new status.LongFile = IsLong said go.src old new
-GoOutcome took said go old new status.Unbuilt = IsUnbuilt said go.src old new
-GoOutcome took said go old new status.WriteFault = IsUnwritten took said go old new
-GoOutcome took said go old new status.Memory = IsOutOfMemory said old new
-GoOutcome took said go old new status.Usage = ⊥
-GoOutcome took said go old new status.SourceRefused = IsRefused said go.src old new
-GoOutcome took said go old new status.BadImage = ⊥
-GoOutcome took said go old new status.Limit = ⊥
-GoOutcome took said go old new status.MachineStop = ⊥
+  -- of `check`, which puts nothing to out and has no answer yet for a text without a fault
+  abbrev pub CheckOutcome : List ℕ → Status → Type 0
+  CheckOutcome src ended = TextRefused HasReading src ended
 
--- the words are no command
-pub record IsMisused {S E : Type 0} (said : E → List ℕ → E → Type 0) (old new : Outside S E) (ended : Status) : Type 0 where
-  pub usage : ended ≡ status.Usage
-  pub untouched : IsUntouched old new
-  pub noted : Says said old new usage_line
+-- ---- what it does to out
 
-abbrev pub OutcomeOf : {S E : Type 0} → (S → List ℕ → S → Type 0) → (E → List ℕ → E → Type 0) → Option Go → Outside S E → Outside S E → Status → Type 0
-OutcomeOf took said (Some go) old new ended = GoOutcome took said go old new ended
-OutcomeOf took said None old new ended = IsMisused said old new ended
+module _ {S E : Type 0} (o : SinkOf S) (e : SinkOf E) (out : Change S) (err : Change E) (a : Answer) where
+  -- out, err and the status are the answer's; err wasn't touched where all is done
+  pub record IsAnswered (ended : Status) : Type 0 where
+    pub printed : o.took out.old a.out out.new
+    pub noted : Says e err a.err
+    pub silent : ended ≡ status.Done → IsIdle err
+    pub status_is : a.status ≡ ended
 
--- of the program on some words
-abbrev pub Outcome : {S E : Type 0} → (S → List ℕ → S → Type 0) → (E → List ℕ → E → Type 0) → List (List ℕ) → Outside S E → Outside S E → Status → Type 0
-Outcome took said words old new ended = OutcomeOf took said (command_of words) old new ended
+  -- a put to out failed, behind a front of the answer's text
+  pub record IsUnwritten : Type 0 where
+    pub cut : IsCut o out a.out
+    pub noted : Says e err write_line
+
+module _ {F S E : Type 0} (f : FolderOf F) (o : SinkOf S) (e : SinkOf E) (folder : Change F) (out : Change S) (err : Change E) where
+  -- the folder has an image under the name, of which such an answer is due
+  pub record OfImage (img : List ℕ) (IsDue : Parts → Type 0) : Type 0 where
+    pub bytes : List ℕ
+    pub image : Parts
+    pub given : Gives f folder most_image img bytes
+    pub spelled : IsImageOf bytes image
+    pub unchanged : IsUnchanged f folder
+    pub due : IsDue image
+
+  -- the image was run, and this is the answer of its run
+  abbrev pub IsRun : List ℕ → Bounds → Status → Type 0
+  IsRun img bounds ended = OfImage img (λ image. IsAnswered o e out err (answer image bounds.sizes bounds.steps) ended)
+
+  -- of `run`
+  abbrev pub RunOutcome : List ℕ → Bounds → Status → Type 0
+  RunOutcome img bounds status.Done = IsRun img bounds status.Done
+  RunOutcome img bounds status.SourceFault = IsRun img bounds status.SourceFault
+  RunOutcome img bounds status.HeapFull = IsRun img bounds status.HeapFull
+  RunOutcome img bounds status.StackFull = IsRun img bounds status.StackFull
+  RunOutcome img bounds status.StepLimit = IsRun img bounds status.StepLimit
+  RunOutcome img bounds status.MachineStop = IsRun img bounds status.MachineStop
+  RunOutcome img bounds status.WriteFault = OfImage img (λ image. IsUnwritten o e out err (answer image bounds.sizes bounds.steps))
+  RunOutcome img bounds ended = IsIdle out × ImageRefused f e folder err img ended
+
+  -- of `list`
+  abbrev pub ListOutcome : List ℕ → Status → Type 0
+  ListOutcome img status.Done = OfImage img (λ image. IsAnswered o e out err (listing_answer image) status.Done)
+  ListOutcome img status.WriteFault = OfImage img (λ image. IsUnwritten o e out err (listing_answer image))
+  ListOutcome img ended = IsIdle out × ImageRefused f e folder err img ended
+
+  -- bytes are an image of the text and were kept, and of the image that they spell such an answer is due
+  pub record OfText (src img : List ℕ) (IsDue : Parts → Type 0) : Type 0 where
+    pub bytes : List ℕ
+    pub image : Parts
+    pub compiled : IsCompiled f folder src img bytes
+    pub spelled : IsImageOf bytes image
+    pub due : IsDue image
+
+  -- the very bytes that were kept were run, and this is the answer of their run
+  abbrev pub IsKeptAndRun : List ℕ → List ℕ → Bounds → Status → Type 0
+  IsKeptAndRun src img bounds ended = OfText src img (λ image. IsAnswered o e out err (answer image bounds.sizes bounds.steps) ended)
+
+  -- of `go`: its run never stops the machine. Where there is no run, all is as with `compile`.
+  abbrev pub GoOutcome : List ℕ → List ℕ → Bounds → Status → Type 0
+  GoOutcome src img bounds status.Done = IsKeptAndRun src img bounds status.Done
+  GoOutcome src img bounds status.SourceFault = IsKeptAndRun src img bounds status.SourceFault
+  GoOutcome src img bounds status.HeapFull = IsKeptAndRun src img bounds status.HeapFull
+  GoOutcome src img bounds status.StackFull = IsKeptAndRun src img bounds status.StackFull
+  GoOutcome src img bounds status.StepLimit = IsKeptAndRun src img bounds status.StepLimit
+  GoOutcome src img bounds status.MachineStop = ⊥
+  GoOutcome src img bounds status.WriteFault =
+      OfText src img (λ image. IsUnwritten o e out err (answer image bounds.sizes bounds.steps)) ⊎ (IsIdle out × CompileOutcome f e folder err src img status.WriteFault)
+  GoOutcome src img bounds ended = IsIdle out × CompileOutcome f e folder err src img ended
+
+  -- of words that are no command
+  pub record IsMisused (ended : Status) : Type 0 where
+    pub usage : ended ≡ status.Usage
+    pub idle : IsIdle out
+    pub unchanged : IsUnchanged f folder
+    pub noted : Says e err usage_line
+
+  -- of a command
+  abbrev pub CommandOutcome : Option Command → Status → Type 0
+  CommandOutcome (Some (Compile src img)) ended = IsIdle out × CompileOutcome f e folder err src img ended
+  CommandOutcome (Some (Run img bounds)) ended = RunOutcome img bounds ended
+  CommandOutcome (Some (Go src img bounds)) ended = GoOutcome src img bounds ended
+  CommandOutcome (Some (Check src)) ended = IsIdle out × CheckOutcome f e folder err src ended
+  CommandOutcome (Some (Listing img)) ended = ListOutcome img ended
+  CommandOutcome None ended = IsMisused ended
+
+  -- of the program on some words
+  abbrev pub Outcome : List (List ℕ) → Status → Type 0
+  Outcome words ended = CommandOutcome (command_of words) ended

@@ -1,143 +1,116 @@
 -- What the parts of a command come to.
-use Rattle.std.specs.Prelude.{◌≡◌, ℕ, ◌⊎◌, List, Option}
-use Rattle.t_ports.specs.Causes.{Rose}
-use Rattle.t_ports.specs.Files.{Files, IfBothTold, Puts}
-use Rattle.t_ports.specs.Pieces.{TookFront}
+use Rattle.std.specs.Prelude.{◌≡◌, ℕ, ◌⊎◌, List, Err}
+use Rattle.t_ports.specs.declared.ports.Folder.{Ghosts as FolderOf}
+use Rattle.t_ports.specs.declared.ports.Sink.{Ghosts as SinkOf}
 use Rattle.m68020_step.specs.declared.machine.Sizes.{Sizes}
 use Rattle.image_file.specs.Grammar.{Parts, IsImageOf}
+use Rattle.image_file.specs.Reading.{image_at}
 use Rattle.orbit_build.specs.Grammar.{ReadsWithoutUnit}
 use Rattle.orbit_build.specs.Faithful.{Faithful}
 use Rattle.orbit_monitor.specs.Answering.{Loaded, fresh}
+use Rattle.orbit_tools.specs.Listing.{listing_of}
 use Rattle.orbit_cli.specs.declared.status.Status.{Status}
 use Rattle.orbit_cli.specs.declared.status.Status.TheVariants as status
-use Rattle.orbit_cli.specs.declared.prepare.Refusal.{Refusal}
-use Rattle.orbit_cli.specs.declared.prepare.Refusal.TheVariants as refusal
-use Rattle.orbit_cli.specs.Lines.{source_line, unread_line, long_line, memory_line, unbuilt_line, write_line}
-use Rattle.orbit_cli.specs.Answer.{answer_on}
-use Rattle.orbit_cli.specs.Outcome.{Outside, IsFetched, IsOver, HasFault, IsUntouched, IsNotKept}
+use Rattle.orbit_cli.specs.declared.refusal.Refusal.{Refusal}
+use Rattle.orbit_cli.specs.declared.refusal.Refusal.TheVariants as refusal
+use Rattle.orbit_cli.specs.Lines.{source_line, bad_image_line, unread_line, long_line, memory_line, unbuilt_line, write_line}
+use Rattle.orbit_cli.specs.Changes.{Change, FetchFailed, KeepFailed, Gives, HasMore, GivesSuch}
+use Rattle.orbit_cli.specs.Answer.{Answer}
+use Rattle.orbit_cli.specs.Outcome.{most_text, most_image, HasFault, HasReading, HasImage, IsAnswered, IsUnwritten}
 
--- an image of the text, and it is loaded
-pub record IsBuilt (text : List ℕ) (sizes : Sizes) (bytes : List ℕ) (loaded : Loaded) : Type 0 where
-  pub image : Parts
-  pub faithful : Faithful text bytes
-  pub spelled : IsImageOf bytes image
-  pub fresh_is : loaded ≡ fresh image sizes
-
--- the same of the text that a folder gave
-pub record IsReady (files : Option Files) (src : List ℕ) (sizes : Sizes) (bytes : List ℕ) (loaded : Loaded) : Type 0 where
-  pub text : List ℕ
-  pub fetched : IsFetched files src text
-  pub built : IsBuilt text sizes bytes loaded
-
--- why a text was not compiled
-abbrev pub BuildRefuses : List ℕ → Refusal → Type 0
-BuildRefuses text refusal.Unread = ⊥
-BuildRefuses text refusal.Long = ⊥
-BuildRefuses text (refusal.Source kind line column) = HasFault text kind line column
-BuildRefuses text refusal.Unbuilt = ReadsWithoutUnit text
-BuildRefuses text refusal.Memory = Unit {0}
-
--- why no text was compiled, where `rose` says that the count of failed fetches rose
-abbrev pub Refuses : Option Files → List ℕ → Type 0 → Refusal → Type 0
-Refuses files src rose refusal.Unread = rose
-Refuses files src rose refusal.Long = IsOver files src
-Refuses files src rose (refusal.Source kind line column) = (text : List ℕ) × IsFetched files src text × HasFault text kind line column
-Refuses files src rose refusal.Unbuilt = (text : List ℕ) × IsFetched files src text × ReadsWithoutUnit text
-Refuses files src rose refusal.Memory = Unit {0}
+-- ---- refusals
 
 abbrev pub refusal_line : List ℕ → Refusal → List ℕ
-refusal_line src refusal.Unread = unread_line src
-refusal_line src refusal.Long = long_line src
-refusal_line src (refusal.Source kind line column) = source_line src line column kind
-refusal_line src refusal.Unbuilt = unbuilt_line
-refusal_line src refusal.Memory = memory_line
+refusal_line name refusal.Unread = unread_line name
+refusal_line name refusal.Long = long_line name
+refusal_line name (refusal.Source kind line column) = source_line name line column kind
+refusal_line name (refusal.Bad kind at) = bad_image_line name kind at
+refusal_line name refusal.Unbuilt = unbuilt_line
+refusal_line name refusal.Unkept = write_line
+refusal_line name refusal.Memory = memory_line
 
 abbrev pub refusal_status : Refusal → Status
 refusal_status refusal.Unread = status.FetchFault
 refusal_status refusal.Long = status.LongFile
 refusal_status (refusal.Source kind line column) = status.SourceRefused
+refusal_status (refusal.Bad kind at) = status.BadImage
 refusal_status refusal.Unbuilt = status.Unbuilt
+refusal_status refusal.Unkept = status.WriteFault
 refusal_status refusal.Memory = status.Memory
 
--- a fact of a status that says that something was not written, and another of every other status
-abbrev pub IfUnwritten : Status → Type 0 → Type 0 → Type 0
-IfUnwritten status.WriteFault p q = p
-IfUnwritten status.Done p q = q
-IfUnwritten status.Usage p q = q
-IfUnwritten status.SourceRefused p q = q
-IfUnwritten status.SourceFault p q = q
-IfUnwritten status.HeapFull p q = q
-IfUnwritten status.StackFull p q = q
-IfUnwritten status.StepLimit p q = q
-IfUnwritten status.BadImage p q = q
-IfUnwritten status.FetchFault p q = q
-IfUnwritten status.Memory p q = q
-IfUnwritten status.Limit p q = q
-IfUnwritten status.MachineStop p q = q
-IfUnwritten status.LongFile p q = q
-IfUnwritten status.Unbuilt p q = q
+-- why this text is refused
+abbrev pub TextCause : (List ℕ → Type 0) → List ℕ → Refusal → Type 0
+TextCause IsUnbuilt text (refusal.Source kind line column) = HasFault kind line column text
+TextCause IsUnbuilt text refusal.Unbuilt = IsUnbuilt text
+TextCause IsUnbuilt text refusal.Memory = Unit {0}
+TextCause IsUnbuilt text _ = ⊥
 
--- a sink before and after, each with its count of faults
-pub record Change (S : Type 0) : Type 0 where
-  pub old : S
-  pub old_faults : ℕ
-  pub new : S
-  pub new_faults : ℕ
+module _ {F : Type 0} (f : FolderOf F) (folder : Change F) where
+  -- why the text of this name is refused, or its image isn't kept
+  abbrev pub SourceCause : (List ℕ → Type 0) → Type 0 → List ℕ → Refusal → Type 0
+  SourceCause IsUnbuilt unkept src refusal.Unread = FetchFailed f folder
+  SourceCause IsUnbuilt unkept src refusal.Long = HasMore f folder most_text src
+  SourceCause IsUnbuilt unkept src (refusal.Source kind line column) = GivesSuch f folder most_text src (HasFault kind line column)
+  SourceCause IsUnbuilt unkept src (refusal.Bad kind at) = ⊥
+  SourceCause IsUnbuilt unkept src refusal.Unbuilt = GivesSuch f folder most_text src IsUnbuilt
+  SourceCause IsUnbuilt unkept src refusal.Unkept = unkept
+  SourceCause IsUnbuilt unkept src refusal.Memory = Unit {0}
 
-abbrev pub change : {S : Type 0} → S → ℕ → S → ℕ → Change S
-change old old_faults new new_faults = record { old = old; old_faults = old_faults; new = new; new_faults = new_faults }
+  abbrev pub CompileCause : List ℕ → Refusal → Type 0
+  CompileCause src r = SourceCause ReadsWithoutUnit (KeepFailed f folder × GivesSuch f folder most_text src HasImage) src r
 
--- a sink took exactly the line, where no put to it failed
-abbrev pub Notes : {E : Type 0} → (E → List ℕ → E → Type 0) → Change E → List ℕ → Type 0
-Notes said err line = (Rose err.old_faults err.new_faults → ⊥) → said err.old line err.new
+  abbrev pub CheckCause : List ℕ → Refusal → Type 0
+  CheckCause src r = SourceCause HasReading ⊥ src r
 
--- out, err and the status are the answer of the loaded program
-pub record IsAnswered {S E : Type 0} (took : S → List ℕ → S → Type 0) (said : E → List ℕ → E → Type 0) (loaded : Loaded) (steps : ℕ) (out : Change S) (err : Change E) (ended : Status) : Type 0 where
-  pub printed : took out.old (answer_on loaded steps).out out.new
-  pub noted : Notes said err (answer_on loaded steps).err
-  pub status_is : (answer_on loaded steps).status ≡ ended
+  -- why the image of this name is refused
+  abbrev pub ImageCause : List ℕ → Refusal → Type 0
+  ImageCause img refusal.Unread = FetchFailed f folder
+  ImageCause img refusal.Long = HasMore f folder most_image img
+  ImageCause img (refusal.Bad kind at) = GivesSuch f folder most_image img (λ bytes. image_at bytes ≡ Err (kind, at))
+  ImageCause img refusal.Memory = Unit {0}
+  ImageCause img _ = ⊥
 
--- a put to out failed, behind a front of what was due
-pub record IsCutOff {S E : Type 0} (took : S → List ℕ → S → Type 0) (said : E → List ℕ → E → Type 0) (due : List ℕ) (out : Change S) (err : Change E) : Type 0 where
-  pub rose : Rose out.old_faults out.new_faults
-  pub front : TookFront took out.old due out.new
-  pub noted : Notes said err write_line
+  -- why bytes weren't kept
+  abbrev pub KeepCause : Refusal → Type 0
+  KeepCause refusal.Unkept = KeepFailed f folder
+  KeepCause refusal.Memory = Unit {0}
+  KeepCause _ = ⊥
 
-abbrev pub IsReported : {S E : Type 0} → (S → List ℕ → S → Type 0) → (E → List ℕ → E → Type 0) → Loaded → ℕ → Change S → Change E → Status → Type 0
-IsReported took said loaded steps out err ended = IfUnwritten ended (IsCutOff took said (answer_on loaded steps).out out err) (IsAnswered took said loaded steps out err ended)
+  -- ---- images
 
--- the line of a value was put, or cut off
-pub record IsHalted {S E : Type 0} (took : S → List ℕ → S → Type 0) (line : List ℕ) (out : Change S) (err : Change E) (ended : Status) : Type 0 where
-  pub printed : took out.old line out.new
-  pub silent : err.new ≡ err.old
-  pub status_is : ended ≡ status.Done
+  -- the bytes are an image of the text of this name
+  pub record IsTranslated (src bytes : List ℕ) : Type 0 where
+    pub text : List ℕ
+    pub given : Gives f folder most_text src text
+    pub faithful : Faithful text bytes
 
-abbrev pub Halts : {S E : Type 0} → (S → List ℕ → S → Type 0) → (E → List ℕ → E → Type 0) → List ℕ → Change S → Change E → Status → Type 0
-Halts took said line out err ended = IfUnwritten ended (IsCutOff took said line out err) (IsHalted took line out err ended)
+  -- the folder has this image under the name
+  pub record IsFetched (img : List ℕ) (image : Parts) : Type 0 where
+    pub bytes : List ℕ
+    pub given : Gives f folder most_image img bytes
+    pub spelled : IsImageOf bytes image
 
-abbrev pub out_of : {S E : Type 0} → Outside S E → Outside S E → Change S
-out_of old new = change old.out old.out_faults new.out new.out_faults
+  -- its program is loaded
+  pub record IsFetchedProgram (img : List ℕ) (sizes : Sizes) (loaded : Loaded) : Type 0 where
+    pub image : Parts
+    pub fetched : IsFetched img image
+    pub fresh_is : loaded ≡ fresh image sizes
 
-abbrev pub err_of : {S E : Type 0} → Outside S E → Outside S E → Change E
-err_of old new = change old.err old.err_faults new.err new.err_faults
+  -- the text is its listing
+  pub record IsFetchedListing (img text : List ℕ) : Type 0 where
+    pub image : Parts
+    pub fetched : IsFetched img image
+    pub listed : text ≡ listing_of image.code
 
--- the image was not kept
-pub record KeepFails {S E : Type 0} (said : E → List ℕ → E → Type 0) (old new : Outside S E) (ended : Status) : Type 0 where
-  pub unkept : IsNotKept old new
-  pub noted : Notes said (err_of old new) write_line
-  pub status_is : ended ≡ status.WriteFault
+-- the program of an image that is spelled so is loaded
+pub record IsProgram (bytes : List ℕ) (sizes : Sizes) (loaded : Loaded) : Type 0 where
+  pub image : Parts
+  pub spelled : IsImageOf bytes image
+  pub fresh_is : loaded ≡ fresh image sizes
 
--- the folder had no memory to keep it
-pub record KeepLacksMemory {S E : Type 0} (said : E → List ℕ → E → Type 0) (old new : Outside S E) (ended : Status) : Type 0 where
-  pub untouched : IsUntouched old new
-  pub noted : Notes said (err_of old new) memory_line
-  pub status_is : ended ≡ status.Memory
+-- ---- what is put
 
--- it was kept, and the loaded program was run
-pub record KeptAndRun {S E : Type 0} (took : S → List ℕ → S → Type 0) (said : E → List ℕ → E → Type 0) (img bytes : List ℕ) (loaded : Loaded) (steps : ℕ) (old new : Outside S E) (ended : Status) : Type 0 where
-  pub kept : IfBothTold old.files new.files (Puts img bytes)
-  pub reported : IsReported took said loaded steps (out_of old new) (err_of old new) ended
-
-abbrev pub KeptOutcome : {S E : Type 0} → (S → List ℕ → S → Type 0) → (E → List ℕ → E → Type 0) → List ℕ → List ℕ → Loaded → ℕ → Outside S E → Outside S E → Status → Type 0
-KeptOutcome took said img bytes loaded steps old new ended =
-    KeptAndRun took said img bytes loaded steps old new ended ⊎ (KeepFails said old new ended ⊎ KeepLacksMemory said old new ended)
+module _ {S E : Type 0} (o : SinkOf S) (e : SinkOf E) (out : Change S) (err : Change E) where
+  -- out, err and the status are the answer's, or a put to out failed
+  abbrev pub Reports : Answer → Status → Type 0
+  Reports a ended = IsAnswered o e out err a ended ⊎ (IsUnwritten o e out err a × (ended ≡ status.WriteFault))

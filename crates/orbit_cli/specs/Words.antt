@@ -1,8 +1,9 @@
 -- The words of a command line, and the command that they are.
-use Rattle.std.specs.Prelude.{ℕ, ◌+◌, ◌-◌, ◌*◌, ◌%◌, ◌^◌, Bool, not, ◌==◌, ◌&&◌, List, [], ◌∷◌, Option, Some, None, if◌then◌else◌, nat_le, length, codes, option_and_then}
+use Rattle.std.specs.Prelude.{ℕ, ◌+◌, ◌-◌, ◌*◌, ◌%◌, ◌^◌, Bool, not, ◌==◌, ◌&&◌, List, [], ◌∷◌, Option, Some, None, if◌then◌else◌, nat_le, length, codes, option_and_then, option_map}
 use Rattle.std.specs.List.{list_all}
 use Rattle.std.specs.Str.{bytes_eq}
 use Rattle.std.specs.Char.{is_ascii_digit}
+use Rattle.orbit_cli.specs.declared.words.Bounds.{Bounds}
 
 -- the number whose digits are those of v and then these, the highest first
 abbrev pub digits_value : ℕ → List ℕ → ℕ
@@ -31,18 +32,31 @@ size word = option_and_then size_from (number (2 ^ 28) word)
 abbrev pub steps : List ℕ → Option ℕ
 steps word = number (2 ^ 40) word
 
--- a text to compile, a name for its image, and with how many bytes of heap and stack it is run for at most so many instructions
-pub record Go : Type 0 where
-  pub src : List ℕ
-  pub img : List ℕ
-  pub heap : ℕ
-  pub stack : ℕ
-  pub steps : ℕ
+-- the bounds of a run: bytes of heap and of stack, and most instructions
+abbrev pub bounds_of : List ℕ → List ℕ → List ℕ → Option Bounds
+bounds_of heap stack most =
+    option_and_then (λ h. option_and_then (λ s. option_and_then (λ n. Some (record { sizes = record { heap = h; stack = s }; steps = n })) (steps most)) (size stack)) (size heap)
 
--- the command that the words are: a row of the table of commands
-abbrev pub command_of : List (List ℕ) → Option Go
-command_of (name ∷ src ∷ img ∷ heap ∷ stack ∷ most ∷ []) =
-    if bytes_eq name (codes "go") then
-    option_and_then (λ h. option_and_then (λ s. option_and_then (λ n. Some (record { src = src; img = img; heap = h; stack = s; steps = n })) (steps most)) (size stack)) (size heap)
+-- what the program is asked for, by the names of texts and images
+pub data Command : Type 0 where
+  Compile : (src img : List ℕ) → Command
+  Run : (img : List ℕ) (bounds : Bounds) → Command
+  Go : (src img : List ℕ) (bounds : Bounds) → Command
+  Check : (src : List ℕ) → Command
+  Listing : (img : List ℕ) → Command
+
+-- the command that the words are: the table of commands
+abbrev pub single_command : List ℕ → List ℕ → Option Command
+single_command name file =
+    if bytes_eq name (codes "check") then Some (Check file)
+    else if bytes_eq name (codes "list") then Some (Listing file)
     else None
+
+abbrev pub command_of : List (List ℕ) → Option Command
+command_of (name ∷ file ∷ []) = single_command name file
+command_of (name ∷ src ∷ img ∷ []) = if bytes_eq name (codes "compile") then Some (Compile src img) else None
+command_of (name ∷ img ∷ heap ∷ stack ∷ most ∷ []) =
+    if bytes_eq name (codes "run") then option_map (λ bounds. Run img bounds) (bounds_of heap stack most) else None
+command_of (name ∷ src ∷ img ∷ heap ∷ stack ∷ most ∷ []) =
+    if bytes_eq name (codes "go") then option_map (λ bounds. Go src img bounds) (bounds_of heap stack most) else None
 command_of words = None

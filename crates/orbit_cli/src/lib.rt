@@ -2,11 +2,11 @@
 //! contract of `orbit` is the promise of the whole program.
 #![tactic(auto)]
 
+mod commands;
 mod image;
-mod image_words;
-mod inspect;
 mod lines;
 mod prepare;
+mod refusal;
 mod report;
 mod status;
 mod top;

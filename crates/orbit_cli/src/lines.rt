@@ -4,8 +4,9 @@ ghost use Rattle.std.specs.Prelude.{◌≡◌, ◌<◌, OnOk, OnErr};
 ghost use Rattle.std.specs.Fmt.{signed_decimal};
 ghost use Rattle.t_ports.specs.Causes.{HasCause};
 ghost use Rattle.t_ports.specs.Pieces.{TookFront};
-ghost use Rattle.orbit_cli.specs.Lines.{unnamed_text, character_text, kind_text, line_end, value_line, fault_words, operand_of, fault_line, region_name, full_line, limit_line, stop_name, hex_digit, hex_address, stop_line, read_kind_name, located_line, source_line, unread_line, long_line};
+ghost use Rattle.orbit_cli.specs.Lines.{unnamed_text, character_text, kind_text, line_end, value_line, fault_words, operand_of, fault_line, region_name, full_line, limit_line, stop_name, hex_digit, hex_address, stop_line, read_kind_name, located_line, source_line, image_kind_name, place_line, bad_image_line, unread_line, long_line};
 
+use image_file::ImageKind;
 use itoa::Buffer;
 use m68020_step::Why;
 use t_base::Fault;
@@ -221,7 +222,7 @@ pub fn put_stop<S: Sink>(sink: &mut S, why: Why, at: u32) -> Result<(), Failed>
     )
 }
 
-fn name_of_kind<'a>(kind: ReadKind) -> &'a [u8]
+fn name_of_read_kind<'a>(kind: ReadKind) -> &'a [u8]
     ensures { result.now ≡ read_kind_name kind }
 {
     match kind {
@@ -277,7 +278,44 @@ pub fn put_source_fault<S: Sink>(
     let mut column_text = Buffer::new();
     let line = line_text.format(line);
     let column = column_text.format(column);
-    put_located(sink, src, line, column, name_of_kind(kind))
+    put_located(sink, src, line, column, name_of_read_kind(kind))
+}
+
+fn name_of_image_kind<'a>(kind: ImageKind) -> &'a [u8]
+    ensures { result.now ≡ image_kind_name kind }
+{
+    match kind {
+        ImageKind::Magic => b"I1 Magic",
+        ImageKind::Version => b"I2 Version",
+        ImageKind::Short => b"I3 Short",
+        ImageKind::Long => b"I4 Long",
+        ImageKind::Field => b"I5 Field",
+    }
+}
+
+// Puts a name, the kind of what fails and its place.
+fn put_place<S: Sink>(sink: &mut S, img: &str, kind: &[u8], at: &str) -> Result<(), Failed>
+    ensures ok { OnOk result (S.took sink.old (place_line img.now kind.now at.now) sink.new) }
+    ensures cause { HasCause (S.faults sink.old) (S.faults sink.new) result }
+{
+    put_all(
+        sink,
+        &[img.as_bytes(), b": ", kind, b" at ", at.as_bytes(), b"\n"],
+    )
+}
+
+/// Puts the line of bytes that are no image.
+pub fn put_bad_image<S: Sink>(
+    sink: &mut S,
+    img: &str,
+    kind: ImageKind,
+    at: u32,
+) -> Result<(), Failed>
+    ensures ok { OnOk result (S.took sink.old (bad_image_line img.now kind at) sink.new) }
+    ensures cause { HasCause (S.faults sink.old) (S.faults sink.new) result }
+{
+    let mut buffer = Buffer::new();
+    put_place(sink, img, name_of_image_kind(kind), buffer.format(at))
 }
 
 /// Puts the line of a file that could not be read.

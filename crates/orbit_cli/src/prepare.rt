@@ -1,56 +1,28 @@
-//! From the name of a text to a loaded image.
+//! From the name of a text to its image: fetched, translated, loaded and kept.
 
-ghost use Rattle.std.specs.Prelude.{◌≡◌, ◌≤◌, ◌^◌, IsTrue, length, List, IfOk, IfErr};
+ghost use Rattle.std.specs.Prelude.{◌≡◌, ◌≤◌, ◌^◌, ℕ, List, IsTrue, length, IfOk, IfErr, OnOk, OnErr};
 ghost use Rattle.t_base.specs.Lines.{line_of, column_of};
-ghost use Rattle.t_ports.specs.Causes.{Rose};
-ghost use Rattle.t_ports.specs.Files.{IfBothTold, IsSame};
-ghost use Rattle.image_file.specs.Grammar.{Parts, IsImageOf, parts_of};
+ghost use Rattle.image_file.specs.Grammar.{Parts, IsImageOf};
 ghost use Rattle.m68020_step.specs.Boot.{is_size};
-ghost use Rattle.orbit_monitor.specs.Answering.{fresh};
-ghost use Rattle.orbit_cli.specs.Outcome.{IsFetched};
-ghost use Rattle.orbit_cli.specs.Parts.{IsBuilt, IsReady, BuildRefuses, Refuses};
+ghost use Rattle.orbit_build.specs.Faithful.{Faithful};
+ghost use Rattle.orbit_build.specs.Grammar.{ReadsWithoutUnit};
+ghost use Rattle.orbit_cli.specs.Changes.{change, Gives, IsUnchanged, Keeps};
+ghost use Rattle.orbit_cli.specs.Command.{AreSizes};
+ghost use Rattle.orbit_cli.specs.Outcome.{most_text, HasReading, IsCompiled};
+ghost use Rattle.orbit_cli.specs.Parts.{TextCause, CompileCause, CheckCause, KeepCause, IsTranslated, IsProgram};
 
+use crate::refusal::Refusal;
 use image_file::read_image;
 use m68020_step::Sizes;
 use orbit_build::{BuildFault, compile};
 use orbit_monitor::{Boot, boot};
 use std::alloc::Global;
 use t_base::{Memory, Span, place};
-use t_ports::ports::{FetchFault, Folder};
-use t_reader::ReadKind;
+use t_ports::ports::{FetchFault, Folder, KeepFault};
+use t_reader::{ReadFault, ReadKind, read_unit};
 
 /// Most bytes of a text.
 const MAX_TEXT: usize = 0x10_0000;
-
-/// Why there is no image of a text.
-#[derive(Clone, Copy, Debug, PartialEq, Eq)]
-pub enum Refusal {
-    /// The folder could not read it.
-    Unread,
-    /// It has more bytes than are taken.
-    Long,
-    /// It has a fault of the grammar: its kind, and the line and column where it stands, from 1.
-    Source {
-        kind: ReadKind,
-        line: u32,
-        column: u32,
-    },
-    /// It has a form that is not built yet.
-    Unbuilt,
-    /// There was no memory.
-    Memory,
-}
-
-impl From<Memory> for Refusal {
-    ghost use Rattle.std.specs.Prelude.{◌≡◌};
-    ghost use Rattle.orbit_cli.specs.declared.prepare.Refusal.TheVariants as refusals;
-
-    ghost from_gives = { λ _ e. e ≡ refusals.Memory };
-
-    fn from(_: Memory) -> Self {
-        Refusal::Memory
-    }
-}
 
 /// The bytes of an image, and the program that they spell, in the machine.
 #[derive(Drop)]
@@ -60,10 +32,11 @@ pub struct Ready {
 }
 
 fn fetch_text<F: Folder>(alloc: Global, src: &str, folder: &mut F) -> Result<Vec<u8>, Refusal>
-    ensures same { IfBothTold (F.files folder.old) (F.files folder.new) IsSame }
+    ensures same { IsUnchanged F.Folder (change folder.old folder.new) }
     ensures keeps { F.keep_faults folder.new ≡ F.keep_faults folder.old }
-    ensures fetched { IfOk result (λ text. IsFetched (F.files folder.old) src.now text.items) }
-    ensures refused { IfErr result (Refuses (F.files folder.old) src.now (Rose (F.fetch_faults folder.old) (F.fetch_faults folder.new))) }
+    ensures given { IfOk result (λ text. Gives F.Folder (change folder.old folder.new) most_text src.now text.items) }
+    ensures uncompiled { IfErr result (CompileCause F.Folder (change folder.old folder.new) src.now) }
+    ensures unchecked { IfErr result (CheckCause F.Folder (change folder.old folder.new) src.now) }
 {
     match folder.fetch(alloc, src, MAX_TEXT) {
         Ok(text) => Ok(text),
@@ -71,20 +44,6 @@ fn fetch_text<F: Folder>(alloc: Global, src: &str, folder: &mut F) -> Result<Vec
         Err(FetchFault::Long { .. }) => Err(Refusal::Long),
         Err(FetchFault::Memory) => Err(Refusal::Memory),
     }
-}
-
-// The program of an image. Its bytes are those of an image, so that no field of them fails.
-fn load(alloc: Global, bytes: &[u8], sizes: Sizes) -> Result<Boot, Memory>
-    requires image { (image : Parts) × IsImageOf bytes.now image }
-    requires heap { IsTrue (is_size sizes.heap) }
-    requires stack { IsTrue (is_size sizes.stack) }
-    ensures { IfOk result (λ loaded. (image : Parts) × IsImageOf bytes.now image × (loaded ≡ fresh image sizes)) }
-{
-    let Ok(image) = read_image(alloc, bytes) else {
-        return Err(Memory);
-    };
-    let loaded = boot(alloc, &image, sizes)?;
-    Ok(loaded)
 }
 
 // A fault of the grammar, with its line and column.
@@ -97,37 +56,116 @@ fn source_refusal(text: &[u8], kind: ReadKind, span: Span) -> Refusal
     Refusal::Source { kind, line, column }
 }
 
-fn build(alloc: Global, text: &[u8], sizes: Sizes) -> Result<Ready, Refusal>
-    requires short { length text.now ≤ 2 ^ 20 }
-    requires heap { IsTrue (is_size sizes.heap) }
-    requires stack { IsTrue (is_size sizes.stack) }
-    ensures built { IfOk result (λ ready. IsBuilt text.now sizes ready.bytes.items ready.boot) }
-    ensures refused { IfErr result (BuildRefuses text.now) }
+// Makes the image of a text.
+fn translate(alloc: Global, text: &[u8]) -> Result<Vec<u8>, Refusal>
+    requires { length text.now ≤ 2 ^ 20 }
+    ensures faithful { IfOk result (λ bytes. Faithful text.now bytes.items) }
+    ensures refused { IfErr result (TextCause ReadsWithoutUnit text.now) }
 {
-    let bytes = match compile(alloc, text) {
-        Ok(bytes) => bytes,
-        Err(BuildFault::Read { kind, span }) => return Err(source_refusal(text, kind, span)),
-        Err(BuildFault::Unbuilt) => return Err(Refusal::Unbuilt),
-        Err(BuildFault::Memory) => return Err(Refusal::Memory),
-    };
-    let boot = load(alloc, &bytes, sizes)?;
-    Ok(Ready { bytes, boot })
+    match compile(alloc, text) {
+        Ok(bytes) => Ok(bytes),
+        Err(BuildFault::Read { kind, span }) => Err(source_refusal(text, kind, span)),
+        Err(BuildFault::Unbuilt) => Err(Refusal::Unbuilt),
+        Err(BuildFault::Memory) => Err(Refusal::Memory),
+    }
 }
 
-/// Fetches a text, compiles it and loads its image.
+/// Fetches a text and makes its image.
+fn fetch_translated<F: Folder>(alloc: Global, src: &str, folder: &mut F) -> Result<Vec<u8>, Refusal>
+    ensures same { IsUnchanged F.Folder (change folder.old folder.new) }
+    ensures keeps { F.keep_faults folder.new ≡ F.keep_faults folder.old }
+    ensures translated { IfOk result (λ bytes. IsTranslated F.Folder (change folder.old folder.new) src.now bytes.items) }
+    ensures refused { IfErr result (CompileCause F.Folder (change folder.old folder.new) src.now) }
+{
+    let text = fetch_text(alloc, src, folder)?;
+    translate(alloc, &text)
+}
+
+// The program of an image. Its bytes are those of an image, so that no field of them fails.
+fn load(alloc: Global, bytes: &[u8], sizes: Sizes) -> Result<Boot, Memory>
+    requires image { (image : Parts) × IsImageOf bytes.now image }
+    requires heap { IsTrue (is_size sizes.heap) }
+    requires stack { IsTrue (is_size sizes.stack) }
+    ensures { IfOk result (λ loaded. IsProgram bytes.now sizes loaded) }
+{
+    let Ok(image) = read_image(alloc, bytes) else {
+        return Err(Memory);
+    };
+    let loaded = boot(alloc, &image, sizes)?;
+    Ok(loaded)
+}
+
+/// Fetches a text, makes its image and loads its program.
 pub fn prepare<F: Folder>(
     alloc: Global,
     src: &str,
     sizes: Sizes,
     folder: &mut F,
 ) -> Result<Ready, Refusal>
-    requires heap { IsTrue (is_size sizes.heap) }
-    requires stack { IsTrue (is_size sizes.stack) }
-    ensures same { IfBothTold (F.files folder.old) (F.files folder.new) IsSame }
+    requires { AreSizes sizes }
+    ensures same { IsUnchanged F.Folder (change folder.old folder.new) }
     ensures keeps { F.keep_faults folder.new ≡ F.keep_faults folder.old }
-    ensures ready { IfOk result (λ ready. IsReady (F.files folder.old) src.now sizes ready.bytes.items ready.boot) }
-    ensures refused { IfErr result (Refuses (F.files folder.old) src.now (Rose (F.fetch_faults folder.old) (F.fetch_faults folder.new))) }
+    ensures translated { IfOk result (λ ready. IsTranslated F.Folder (change folder.old folder.new) src.now ready.bytes.items) }
+    ensures loaded { IfOk result (λ ready. IsProgram ready.bytes.items sizes ready.boot) }
+    ensures refused { IfErr result (CompileCause F.Folder (change folder.old folder.new) src.now) }
 {
-    let text = fetch_text(alloc, src, folder)?;
-    build(alloc, &text, sizes)
+    let bytes = fetch_translated(alloc, src, folder)?;
+    let boot = load(alloc, &bytes, sizes)?;
+    Ok(Ready { bytes, boot })
+}
+
+/// Keeps the bytes of an image.
+pub fn keep<F: Folder>(
+    alloc: Global,
+    img: &str,
+    bytes: &[u8],
+    folder: &mut F,
+) -> Result<(), Refusal>
+    ensures kept { OnOk result (Keeps F.Folder (change folder.old folder.new) img.now bytes.now) }
+    ensures same { OnErr result (IsUnchanged F.Folder (change folder.old folder.new)) }
+    ensures refused { IfErr result (KeepCause F.Folder (change folder.old folder.new)) }
+{
+    match folder.keep(alloc, img, bytes) {
+        Ok(()) => Ok(()),
+        Err(KeepFault::Failed) => Err(Refusal::Unkept),
+        Err(KeepFault::Memory) => Err(Refusal::Memory),
+    }
+}
+
+/// Fetches a text, makes its image and keeps it.
+pub fn compile_and_keep<F: Folder>(
+    alloc: Global,
+    src: &str,
+    img: &str,
+    folder: &mut F,
+) -> Result<(), Refusal>
+    ensures compiled { OnOk result ((bytes : List ℕ) × IsCompiled F.Folder (change folder.old folder.new) src.now img.now bytes) }
+    ensures same { OnErr result (IsUnchanged F.Folder (change folder.old folder.new)) }
+    ensures refused { IfErr result (CompileCause F.Folder (change folder.old folder.new) src.now) }
+{
+    let bytes = fetch_translated(alloc, src, folder)?;
+    keep(alloc, img, &bytes, folder)
+}
+
+// Why a text is refused: its first fault, or else that it is not built yet.
+fn judge(alloc: Global, text: &[u8]) -> Refusal
+    requires { length text.now ≤ 2 ^ 20 }
+    ensures { TextCause HasReading text.now result }
+{
+    match read_unit(alloc, text) {
+        Ok(_) => Refusal::Unbuilt,
+        Err(ReadFault::Fault { kind, span }) => source_refusal(text, kind, span),
+        Err(ReadFault::Memory) => Refusal::Memory,
+    }
+}
+
+/// Fetches a text and checks it.
+pub fn check_text<F: Folder>(alloc: Global, src: &str, folder: &mut F) -> Refusal
+    ensures same { IsUnchanged F.Folder (change folder.old folder.new) }
+    ensures refused { CheckCause F.Folder (change folder.old folder.new) src.now result }
+{
+    match fetch_text(alloc, src, folder) {
+        Ok(text) => judge(alloc, &text),
+        Err(refusal) => refusal,
+    }
 }

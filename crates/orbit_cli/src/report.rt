@@ -1,4 +1,4 @@
-//! A run, and what is printed of it.
+//! What is put of an image: of its run, or its listing.
 
 ghost use Rattle.std.specs.Prelude.{◌≡◌, ◌<◌, [], get_or, OnOk, OnErr, length};
 ghost use Rattle.t_base.specs.declared.faults.Face.{Face};
@@ -7,8 +7,9 @@ ghost use Rattle.t_ports.specs.Pieces.{TookFront};
 ghost use Rattle.orbit_monitor.specs.Observed.{shown_of};
 ghost use Rattle.orbit_monitor.specs.Answering.{FaceIsNamed};
 ghost use Rattle.orbit_cli.specs.Lines.{shown_text, value_line, write_line};
-ghost use Rattle.orbit_cli.specs.Answer.{full_status};
-ghost use Rattle.orbit_cli.specs.Parts.{change, Notes, Halts, IsReported};
+ghost use Rattle.orbit_cli.specs.Answer.{full_status, answer_on, printed};
+ghost use Rattle.orbit_cli.specs.Changes.{change, Says};
+ghost use Rattle.orbit_cli.specs.Parts.{Reports};
 
 use crate::lines::{
     kind_name, put_character_value, put_fault, put_full, put_limit, put_number_value, put_stop,
@@ -47,10 +48,10 @@ fn put_face<S: Sink>(boot: &Boot, face: Face, out: &mut S) -> Result<(), Failed>
     }
 }
 
-/// Puts the line that something could not be written.
-pub fn unwritten<E: Sink>(err: &mut E) -> Status
+// Puts the line that something could not be written.
+fn unwritten<E: Sink>(err: &mut E) -> Status
     ensures status { result ≡ Status.WriteFault }
-    ensures noted { Notes E.took (change err.old (E.faults err.old) err.new (E.faults err.new)) write_line }
+    ensures noted { Says E.Sink (change err.old err.new) write_line }
 {
     let _ = err.put(b"cannot write\n");
     Status::WriteFault
@@ -59,7 +60,7 @@ pub fn unwritten<E: Sink>(err: &mut E) -> Status
 // The program halted with this face.
 fn halt<S: Sink, E: Sink>(boot: &Boot, face: Face, out: &mut S, err: &mut E) -> Status
     requires { FaceIsNamed boot.now.names face }
-    ensures { Halts S.took E.took (value_line boot.now.last (shown_text (shown_of boot.now.names face))) (change out.old (S.faults out.old) out.new (S.faults out.new)) (change err.old (E.faults err.old) err.new (E.faults err.new)) result }
+    ensures { Reports S.Sink E.Sink (change out.old out.new) (change err.old err.new) (printed (value_line boot.now.last (shown_text (shown_of boot.now.names face)))) result }
 {
     match put_face(boot, face, out) {
         Ok(()) => Status::Done,
@@ -79,7 +80,7 @@ fn status_of_full(stack: bool) -> Status
 
 /// Runs a loaded program for at most so many instructions, and reports how it ended.
 pub fn finish<S: Sink, E: Sink>(boot: &mut Boot, steps: u64, out: &mut S, err: &mut E) -> Status
-    ensures { IsReported S.took E.took boot.old steps (change out.old (S.faults out.old) out.new (S.faults out.new)) (change err.old (E.faults err.old) err.new (E.faults err.new)) result }
+    ensures { Reports S.Sink E.Sink (change out.old out.new) (change err.old err.new) (answer_on boot.old steps) result }
 {
     match run(boot, steps, out) {
         End::Sink => unwritten(err),
@@ -100,5 +101,24 @@ pub fn finish<S: Sink, E: Sink>(boot: &mut Boot, steps: u64, out: &mut S, err: &
             let _ = put_stop(err, why, at);
             Status::MachineStop
         }
+    }
+}
+
+// Puts a text in one piece.
+fn put_text<S: Sink>(sink: &mut S, text: &[u8]) -> Result<(), Failed>
+    ensures ok { OnOk result (S.took sink.old text.now sink.new) }
+    ensures part { OnErr result (TookFront S.took sink.old text.now sink.new) }
+    ensures cause { HasCause (S.faults sink.old) (S.faults sink.new) result }
+{
+    sink.put(text)
+}
+
+/// Puts a text, and reports whether it was put.
+pub fn print<S: Sink, E: Sink>(text: &[u8], out: &mut S, err: &mut E) -> Status
+    ensures { Reports S.Sink E.Sink (change out.old out.new) (change err.old err.new) (printed text.now) result }
+{
+    match put_text(out, text) {
+        Ok(()) => Status::Done,
+        Err(_) => unwritten(err),
     }
 }

@@ -1,7 +1,7 @@
 //! Images that are run, and bytes that are none.
 
-use crate::calls::sink;
-use crate::inspections::{SEVEN, Seen, check, check_on, done, image_of, refused};
+use crate::calls::{Seen, unwritten};
+use crate::inspections::{SEVEN, check, check_on, done, image_of, refused};
 use orbit_cli::Status;
 use std::alloc::Global;
 use std::process::Abort;
@@ -201,46 +201,104 @@ fn an_image_that_is_not_there(rt: HostRuntime) -> Result<(), Fail> {
 }
 
 #[test]
-fn out_without_room(rt: HostRuntime) -> Result<(), Fail> {
+fn a_listing_without_room(rt: HostRuntime) -> Result<(), Fail> {
     let alloc = rt.alloc();
-    let listed = Seen {
-        out: b"00010000  701C",
-        err: b"cannot write\n",
-        status: Status::WriteFault,
-    };
-    let ran = Seen {
-        out: b"7\nva",
-        ..listed
-    };
     let mut out = MemSink::new(alloc, 14, Vec::new(alloc))?;
-    check_on(&rt, alloc, SEVEN, &["list", "m0"], &mut out, listed)?;
-    let mut out = MemSink::new(alloc, 4, Vec::new(alloc))?;
-    check_on(
-        &rt,
-        alloc,
-        SEVEN,
-        &["run", "m0", "64", "64", "3"],
-        &mut out,
-        ran,
-    )
+    let listed = unwritten(b"00010000  701C");
+    check_on(&rt, alloc, SEVEN, &["list", "m0"], &mut out, listed)
 }
 
-fn check_misuse(rt: &impl Abort, alloc: Global, words: &[&str]) -> Result<(), Fail> {
-    let seen = Seen {
-        out: b"",
-        err: b"usage: orbit compile SRC IMG | run IMG HEAP STACK STEPS | go SRC IMG HEAP STACK STEPS | check SRC | list IMG | trial N STEPS\n",
-        status: Status::Usage,
-    };
-    check_on(rt, alloc, SEVEN, words, &mut sink(alloc)?, seen)
-}
+/// Code that puts -32, 31 and 7 and halts with 7.
+static THREE_PUTS: &[u8] = b"\x70\x80\x4E\x42\x70\x7C\x4E\x42\x70\x1C\x4E\x42\x4E\x40";
+
+/// The number of a put that fails, how many bytes it takes, and what `out` holds then. The fourth put is the first one of the
+/// value's line.
+static FAILED_PUTS: [(u32, u32, &[u8]); 9] = [
+    (1, 0, b""),
+    (1, 2, b"-3"),
+    (1, 3, b"-32"),
+    (2, 0, b"-32"),
+    (2, 1, b"-323"),
+    (2, 2, b"-3231"),
+    (3, 0, b"-3231"),
+    (3, 1, b"-32317"),
+    (4, 0, b"-32317"),
+];
 
 #[test]
-fn words_that_are_no_command_on_an_image(rt: HostRuntime) -> Result<(), Fail> {
+fn each_put_that_fails(rt: HostRuntime) -> Result<(), Fail> {
     let alloc = rt.alloc();
-    check_misuse(&rt, alloc, &["list"])?;
-    check_misuse(&rt, alloc, &["list", "m0", "m0"])?;
-    check_misuse(&rt, alloc, &["run", "m0", "63", "64", "3"])?;
-    check_misuse(&rt, alloc, &["run", "m0", "64", "64", "1099511627777"])?;
-    check_misuse(&rt, alloc, &["run", "m0", "64", "64"])?;
+    let image = image_of(&rt, alloc, THREE_PUTS)?;
+    let words = ["run", "m0", "64", "64", "7"];
+    check(&rt, alloc, &image, &words, done(b"-32317\nvalue 7\n"))?;
+    for (call, taken, held) in FAILED_PUTS {
+        let fail = Vec::from_slice(alloc, &[(call, taken)])?;
+        let mut out = MemSink::new(alloc, 1000, fail)?;
+        check_on(&rt, alloc, &image, &words, &mut out, unwritten(held))?;
+    }
+    Ok(())
+}
+
+/// How much room `out` has for the line of the value, and what it holds when that is used up.
+static ROOMS: [(usize, &[u8]); 9] = [
+    (6, b"-32317"),
+    (7, b"-32317\n"),
+    (8, b"-32317\nv"),
+    (9, b"-32317\nva"),
+    (10, b"-32317\nval"),
+    (11, b"-32317\nvalu"),
+    (12, b"-32317\nvalue"),
+    (13, b"-32317\nvalue "),
+    (14, b"-32317\nvalue 7"),
+];
+
+#[test]
+fn the_line_of_a_value_without_room(rt: HostRuntime) -> Result<(), Fail> {
+    let alloc = rt.alloc();
+    let image = image_of(&rt, alloc, THREE_PUTS)?;
+    let words = ["run", "m0", "64", "64", "7"];
+    for (room, held) in ROOMS {
+        let mut out = MemSink::new(alloc, room, Vec::new(alloc))?;
+        check_on(&rt, alloc, &image, &words, &mut out, unwritten(held))?;
+    }
+    Ok(())
+}
+
+/// Code whose run ends otherwise than by a value, and its line and status.
+static ENDS: [(&[u8], &[u8], Status); 4] = [
+    (
+        b"\x70\x08\x4E\x44",
+        b"heap full: asked 8 left 0\n",
+        Status::HeapFull,
+    ),
+    (
+        b"\x70\x10\x72\x08\x74\x01\x4E\x44",
+        b"stack full: asked 16 left 8\n",
+        Status::StackFull,
+    ),
+    (
+        b"\x70\x0A\x4E\x43",
+        b"fault 10 DeadEscape\n",
+        Status::SourceFault,
+    ),
+    (
+        b"\x70\x0F\x72\xEC\x4E\x43",
+        b"fault 15 User -5\n",
+        Status::SourceFault,
+    ),
+];
+
+#[test]
+fn ends_without_a_value(rt: HostRuntime) -> Result<(), Fail> {
+    let alloc = rt.alloc();
+    for (code, err, status) in ENDS {
+        let image = image_of(&rt, alloc, code)?;
+        let seen = Seen {
+            out: b"",
+            err,
+            status,
+        };
+        check(&rt, alloc, &image, &["run", "m0", "64", "64", "4"], seen)?;
+    }
     Ok(())
 }

@@ -1,19 +1,11 @@
 //! Commands on an image: calls and what is seen of them.
 
-use crate::calls::{sink, words_of};
-use orbit_cli::{Status, orbit};
+use crate::calls::{Seen, check_over, folder_of, sink};
+use orbit_cli::Status;
 use std::alloc::Global;
 use std::process::Abort;
 use std::test::Fail;
-use t_ports::memory::{MemFolder, MemSink};
-
-/// What is put out and noted, and the status.
-#[derive(Clone, Copy)]
-pub struct Seen {
-    pub out: &'static [u8],
-    pub err: &'static [u8],
-    pub status: Status,
-}
+use t_ports::memory::MemSink;
 
 /// The image of six bytes of code that puts 7 and halts with it: MOVEQ #28,D0, TRAP #2, TRAP #0.
 pub static SEVEN: &[u8] =
@@ -38,14 +30,8 @@ pub fn check_on(
     out: &mut MemSink,
     seen: Seen,
 ) -> Result<(), Fail> {
-    let mut folder = MemFolder::new(alloc, Vec::new(alloc));
-    folder.add("m0", image)?;
-    let mut err = sink(alloc)?;
-    let status = orbit(alloc, &words_of(alloc, words)?, &mut folder, out, &mut err);
-    assert_eq!(rt; out.bytes(), seen.out);
-    assert_eq!(rt; err.bytes(), seen.err);
-    assert_eq!(rt; status, seen.status);
-    Ok(())
+    let mut folder = folder_of(alloc, "m0", image, &[])?;
+    check_over(rt, alloc, words, &mut folder, out, seen)
 }
 
 /// The same with ample room for what is put out.

@@ -5,6 +5,8 @@
 #[cfg(test)]
 mod calls;
 #[cfg(test)]
+mod compiling;
+#[cfg(test)]
 mod images;
 #[cfg(test)]
 mod inspections;
@@ -12,6 +14,8 @@ mod inspections;
 mod limits;
 #[cfg(test)]
 mod listings;
+#[cfg(test)]
+mod long;
 #[cfg(test)]
 mod outside;
 #[cfg(test)]

@@ -1,11 +1,10 @@
 //! Texts at the limits: open parentheses, literals and sums of a form, bytes.
 
-use crate::calls::{sink, words_of};
-use orbit_cli::{Status, orbit};
+use crate::calls::{Seen, check_over, folder_of, sink};
+use orbit_cli::Status;
 use std::alloc::Global;
 use std::process::Abort;
 use std::test::Fail;
-use t_ports::memory::MemFolder;
 
 /// Puts a form of so many sums, each the first operand of the next one and the others 1.
 fn put_sums(text: &mut Vec<u8>, sums: usize) -> Result<(), Fail> {
@@ -23,20 +22,14 @@ fn check(
     rt: &impl Abort,
     alloc: Global,
     text: &[u8],
-    out_text: &[u8],
+    out: &'static [u8],
+    err: &'static [u8],
     status: Status,
 ) -> Result<(), Fail> {
-    let mut folder = MemFolder::new(alloc, Vec::new(alloc));
-    folder.add("a.t", text)?;
-    let mut out = sink(alloc)?;
-    let mut err = sink(alloc)?;
-    let words = words_of(alloc, &["go", "a.t", "a.img", "64", "64", "10000000"])?;
-    assert_eq!(rt;
-        orbit(alloc, &words, &mut folder, &mut out, &mut err),
-        status
-    );
-    assert_eq!(rt; out.bytes(), out_text);
-    Ok(())
+    let mut folder = folder_of(alloc, "a.t", text, &[])?;
+    let words = ["go", "a.t", "a.img", "64", "64", "10000000"];
+    let seen = Seen { out, err, status };
+    check_over(rt, alloc, &words, &mut folder, &mut sink(alloc)?, seen)
 }
 
 #[test]
@@ -44,10 +37,11 @@ fn four_hundred_open_parentheses(rt: HostRuntime) -> Result<(), Fail> {
     let alloc = rt.alloc();
     let mut most = Vec::new(alloc);
     put_sums(&mut most, 400)?;
-    check(&rt, alloc, &most, b"value 401\n", Status::Done)?;
+    check(&rt, alloc, &most, b"value 401\n", b"", Status::Done)?;
     let mut over = Vec::new(alloc);
     put_sums(&mut over, 401)?;
-    check(&rt, alloc, &over, b"", Status::SourceRefused)
+    let line = b"a.t:1:1201: R8 TooDeep\n";
+    check(&rt, alloc, &over, b"", line, Status::SourceRefused)
 }
 
 /// A form of three rows of sums: two sums more than the rows have.
@@ -68,10 +62,10 @@ fn a_form_of_two_thousand_literals_and_sums(rt: HostRuntime) -> Result<(), Fail>
     // A form has one literal more than it has sums: 999 sums make 1,999 of both, and 1,000 make 2,001.
     let mut most = Vec::new(alloc);
     put_three(&mut most, 332, 332, 333)?;
-    check(&rt, alloc, &most, b"value 1000\n", Status::Done)?;
+    check(&rt, alloc, &most, b"value 1000\n", b"", Status::Done)?;
     let mut over = Vec::new(alloc);
     put_three(&mut over, 332, 333, 333)?;
-    check(&rt, alloc, &over, b"", Status::Unbuilt)
+    check(&rt, alloc, &over, b"", b"not built yet\n", Status::Unbuilt)
 }
 
 #[test]
@@ -82,5 +76,5 @@ fn a_text_of_the_most_bytes(rt: HostRuntime) -> Result<(), Fail> {
         text.extend_from_slice(b"(+ 1 2)\n")?;
     }
     assert_eq!(rt; text.len(), 0x10_0000);
-    check(&rt, alloc, &text, b"value 3\n", Status::Done)
+    check(&rt, alloc, &text, b"value 3\n", b"", Status::Done)
 }

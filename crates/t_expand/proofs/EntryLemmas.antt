@@ -22,7 +22,7 @@ use Rattle.t_forms.specs.Names.{Meaning, Bound, bound, a_global, an_op, defined_
 use Rattle.t_forms.specs.Held.{IsName, IsTable, IsDefined}
 use Rattle.t_forms.proofs.Bindings.{same_place, nothing_defined}
 use Rattle.t_rows.specs.declared.definitions.Definition.{Definition as CodeDefinition}
-use Rattle.t_rows.specs.Definitions.{IsDefinitionOf}
+use Rattle.t_rows.specs.Definitions.{IsDefinition}
 use Rattle.t_rows.specs.Rows.{Definition, define, lset, operation_form}
 use Rattle.t_expand.specs.Entries.{AreEntries, IsGlobalAdded, IsOpAdded, IsPut, is_variable}
 use Rattle.t_expand.specs.Units.{Entry, entry, defined_name, is_global, is_assigned, has_entry, with_definition, meanings_from, text_of, texts}
@@ -219,7 +219,7 @@ op_added names old new es e p default t apart are n here free global added =
 
 put_entry : (names : List (List ℕ)) (cells : List Cell) (old new : Entries) (es : List Entry) (c : CodeDefinition) (d : Definition) (p : NamePlace)
     → AllPairs (λ a b. a ≢ b) names → AreEntries names old es → Written names p (defined_name d).name → slice_get old.table.items p.0 ≡ Some None
-    → IsDefinitionOf names cells c d → IsPut old new p c → AreEntries names new (es ++ entry d ∷ [])
+    → IsDefinition names cells c d → IsPut old new p c → AreEntries names new (es ++ entry d ∷ [])
 put_entry names cells old new es c (define b e) p apart are w free of put =
     global_added names old new es (entry (define b e)) p kinds.Value w.text apart are w.is w.at free refl refl (subst (λ x. IsPut old new p x) of.2 put)
 put_entry names cells old new es c (lset b e) p apart are w free of put =
@@ -229,6 +229,6 @@ put_entry names cells old new es c (operation_form b ps e) p apart are w free of
 
 pub entry_added : (names : List (List ℕ)) (cells : List Cell) (old new : Entries) (es : List Entry) (c : CodeDefinition) (d : Definition) (p : NamePlace)
     → AllPairs (λ a b. a ≢ b) names → AreEntries names old es → Written names p (defined_name d).name → slice_get old.table.items p.0 ≡ Some None
-    → IsDefinitionOf names cells c d → IsPut old new p c → AreEntries names new (with_definition es d)
+    → IsDefinition names cells c d → IsPut old new p c → AreEntries names new (with_definition es d)
 entry_added names cells old new es c d p apart are w free of put =
     rw (free_entry names old es (defined_name d).name p are w free) (put_entry names cells old new es c d p apart are w free of put)

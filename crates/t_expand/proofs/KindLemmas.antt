@@ -16,8 +16,8 @@ use Rattle.t_forms.specs.Names.{Meaning, a_local, a_global, an_op, the_builtin, 
 use Rattle.t_forms.specs.Held.{IsMeaning}
 use Rattle.t_rows.specs.declared.definitions.Definition.{Definition as CodeDefinition}
 use Rattle.t_rows.specs.declared.definitions.Definition.TheVariants as code
-use Rattle.t_rows.specs.declared.definitions.Binder.{Binder as CodeBinder}
-use Rattle.t_rows.specs.Definitions.{IsDefinitionOf}
+use Rattle.t_rows.specs.declared.names.Binder.{Binder as CodeBinder}
+use Rattle.t_rows.specs.Definitions.{IsDefinition}
 use Rattle.t_rows.specs.Rows.{Definition, define, lset, operation_form}
 use Rattle.t_expand.specs.Meaning.{IsKind, top_scope}
 use Rattle.t_expand.specs.Rooted.{kind_of}
@@ -91,7 +91,7 @@ of_operation vars nm x (meant.Operation o) k c ps i b bs d e is = rw (op_is vars
 of_operation vars nm x _ k c ps i b bs d e is = cc
 
 pub is_kind : (names : List (List ℕ)) (cells : List Cell) (vars : List Var) (c : CodeDefinition) (d : Definition) (defined : List Bound) (m : Meant) (k : FormKind)
-    → IsDefinitionOf names cells c d → kind_of c m ≡ Some k → IsMeaning vars m (meaning (top_scope defined) (defined_name d).name)
+    → IsDefinition names cells c d → kind_of c m ≡ Some k → IsMeaning vars m (meaning (top_scope defined) (defined_name d).name)
     → IsKind k d (meaning_of defined d)
 is_kind names cells vars c (define b d) defined m k of e is =
     of_define vars b.name (defined_as defined b.name) m k of.0 of.1 b d (subst (λ x. kind_of x m ≡ Some k) of.2 e) is

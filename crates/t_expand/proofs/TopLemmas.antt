@@ -11,7 +11,7 @@ use Rattle.t_forms.specs.Names.{Bound}
 use Rattle.t_forms.specs.Held.{Held, AllHeld, Extends}
 use Rattle.t_forms.proofs.Keeping.{held_grows}
 use Rattle.t_rows.specs.declared.definitions.Definition.{Definition as CodeDefinition}
-use Rattle.t_rows.specs.Definitions.{IsDefinitionOf, IsDefault}
+use Rattle.t_rows.specs.Definitions.{IsDefinition, IsHeldIf}
 use Rattle.t_rows.specs.Rows.{Definition, define, lset, operation_form}
 use Rattle.t_expand.specs.Growth.{Keeps}
 use Rattle.t_expand.specs.Meaning.{TopMeans, FormMeans}
@@ -26,12 +26,12 @@ use Rattle.t_expand.specs.declared.unit_top.Rooted.{Rooted}
 
 -- ---- under more cells
 
-default_grows : (names : List (List ℕ)) (a b : List Cell) → Extends a b → (k : Option ℕ) (d : Option Datum) → IsDefault names a k d → IsDefault names b k d
+default_grows : (names : List (List ℕ)) (a b : List Cell) → Extends a b → (k : Option ℕ) (d : Option Datum) → IsHeldIf names a k d → IsHeldIf names b k d
 default_grows names a b g k None is = is
 default_grows names a b g k (Some d) is = (is.0, is.1, held_grows g names is.0 d is.2)
 
-pub definition_grows : (names : List (List ℕ)) (a b : List Cell) → Extends a b → (c : CodeDefinition) (d : Definition) → IsDefinitionOf names a c d
-    → IsDefinitionOf names b c d
+pub definition_grows : (names : List (List ℕ)) (a b : List Cell) → Extends a b → (c : CodeDefinition) (d : Definition) → IsDefinition names a c d
+    → IsDefinition names b c d
 definition_grows names a b g c (define x e) is = (is.0, is.1, is.2, is.3, held_grows g names is.1 e is.4)
 definition_grows names a b g c (lset x e) is = (is.0, is.1, is.2, is.3, held_grows g names is.1 e is.4)
 definition_grows names a b g c (operation_form x ps e) is = (is.0, is.1, is.2, is.3, is.4, is.5, default_grows names a b g is.2 e is.6)
@@ -55,9 +55,9 @@ tops_grow names a b g (c ∷ cs) (t ∷ ts) are = (top_grows names a b g c t are
 
 -- ---- at a later moment
 
-pub definition_kept : (a b : Expansion) (c : CodeDefinition) (d : Definition) → Keeps a b → IsDefinitionOf a.shared.names a.forms c d
-    → IsDefinitionOf b.shared.names b.forms c d
-definition_kept a b c d k is = subst (λ names. IsDefinitionOf names b.forms c d) (sym k.shared.names) (definition_grows a.shared.names a.forms b.forms k.forms c d is)
+pub definition_kept : (a b : Expansion) (c : CodeDefinition) (d : Definition) → Keeps a b → IsDefinition a.shared.names a.forms c d
+    → IsDefinition b.shared.names b.forms c d
+definition_kept a b c d k is = subst (λ names. IsDefinition names b.forms c d) (sym k.shared.names) (definition_grows a.shared.names a.forms b.forms k.forms c d is)
 
 pub top_kept : (a b : Expansion) (c : CodeTop) (t : Top) → Keeps a b → IsTop a.shared.names a.forms c t → IsTop b.shared.names b.forms c t
 top_kept a b c t k is = subst (λ names. IsTop names b.forms c t) (sym k.shared.names) (top_grows a.shared.names a.forms b.forms k.forms c t is)
@@ -85,7 +85,7 @@ finished_means defined later x k rooted t ek er en es lengths means = (rw (en, e
 pub record IsDefining (names : List (List ℕ)) (cells : List Cell) (c : CodeDefinition) (t : Top) : Type 0 where
   pub definition : Definition
   pub is : t ≡ defining definition
-  pub of : IsDefinitionOf names cells c definition
+  pub of : IsDefinition names cells c definition
 
 pub is_defining_top : (names : List (List ℕ)) (cells : List Cell) (c : CodeTop) (x : CodeDefinition) (t : Top) → c ≡ code.Defining x → IsTop names cells c t
     → IsDefining names cells x t

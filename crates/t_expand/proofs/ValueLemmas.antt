@@ -9,8 +9,10 @@ use Rattle.t_forms.specs.Held.{Held}
 use Rattle.t_rows.specs.declared.refusal.Refusal.{Refusal}
 use Rattle.t_rows.specs.declared.definitions.Definition.{Definition as CodeDefinition}
 use Rattle.t_rows.specs.declared.definitions.Definition.TheVariants as code
-use Rattle.t_rows.specs.declared.definitions.Binder.{Binder as CodeBinder}
-use Rattle.t_rows.specs.Definitions.{IsDefinitionOf, IsDefault, AreBinders}
+use Rattle.t_rows.specs.declared.names.Binder.{Binder as CodeBinder}
+use Rattle.t_rows.specs.Definitions.{IsDefinition, IsHeldIf}
+use Rattle.t_rows.specs.Bindings.{IsBinder}
+use Rattle.std.specs.List.{AllZip}
 use Rattle.t_rows.specs.Rows.{Definition, define, lset, operation_form, twice}
 use Rattle.t_expand.specs.Meaning.{Nodes, RootMeans, ValueMeans, top_scope}
 use Rattle.t_expand.specs.Growth.{IsGrown}
@@ -41,28 +43,28 @@ of_default : (names : List (List ℕ)) (cells : List Cell) (k : ℕ) (b : Binder
 of_default names cells k b bs e held =
     record { form = e; held = held; refused = λ defined r x. x; back = λ defined r x. x; means = λ defined shared n root x. x }
 
-pub define_value : (names : List (List ℕ)) (cells : List Cell) (c : CodeDefinition) (n : CodeBinder) (k : ℕ) (d : Definition) → IsDefinitionOf names cells c d
+pub define_value : (names : List (List ℕ)) (cells : List Cell) (c : CodeDefinition) (n : CodeBinder) (k : ℕ) (d : Definition) → IsDefinition names cells c d
     → c ≡ code.Define n k → HasValue names cells k d
 define_value names cells c n k (define b e) of is =
     of_define names cells k b e (let s : of.1 ≡ k = let t = of.2 in cc in subst (λ (i : ℕ). Held names cells i e) s of.4)
 define_value names cells c n k (lset b e) of is = let t = of.2 in cc
 define_value names cells c n k (operation_form b bs e) of is = let t = of.3 in cc
 
-pub lset_value : (names : List (List ℕ)) (cells : List Cell) (c : CodeDefinition) (n : CodeBinder) (k : ℕ) (d : Definition) → IsDefinitionOf names cells c d
+pub lset_value : (names : List (List ℕ)) (cells : List Cell) (c : CodeDefinition) (n : CodeBinder) (k : ℕ) (d : Definition) → IsDefinition names cells c d
     → c ≡ code.Lset n k → HasValue names cells k d
 lset_value names cells c n k (define b e) of is = let t = of.2 in cc
 lset_value names cells c n k (lset b e) of is =
     of_lset names cells k b e (let s : of.1 ≡ k = let t = of.2 in cc in subst (λ (i : ℕ). Held names cells i e) s of.4)
 lset_value names cells c n k (operation_form b bs e) of is = let t = of.3 in cc
 
-default_value : (names : List (List ℕ)) (cells : List Cell) (k : ℕ) (i : Option ℕ) (b : Binder) (bs : List Binder) (e : Option Datum) → IsDefault names cells i e
+default_value : (names : List (List ℕ)) (cells : List Cell) (k : ℕ) (i : Option ℕ) (b : Binder) (bs : List Binder) (e : Option Datum) → IsHeldIf names cells i e
     → i ≡ Some k → HasValue names cells k (operation_form b bs e)
 default_value names cells k i b bs None is s = cc
 default_value names cells k i b bs (Some e) is s =
     of_default names cells k b bs e (let t : is.0 ≡ k = let u = is.1 in cc in subst (λ (j : ℕ). Held names cells j e) t is.2)
 
 pub operation_value : (names : List (List ℕ)) (cells : List Cell) (c : CodeDefinition) (n : CodeBinder) (ps : _) (i : Option ℕ) (k : ℕ) (d : Definition)
-    → IsDefinitionOf names cells c d → c ≡ code.Operation n ps i → i ≡ Some k → HasValue names cells k d
+    → IsDefinition names cells c d → c ≡ code.Operation n ps i → i ≡ Some k → HasValue names cells k d
 operation_value names cells c n ps i k (define b e) of is s = let t = of.2 in cc
 operation_value names cells c n ps i k (lset b e) of is s = let t = of.2 in cc
 operation_value names cells c n ps i k (operation_form b bs e) of is s =
@@ -71,13 +73,13 @@ operation_value names cells c n ps i k (operation_form b bs e) of is s =
 -- an operation without a default
 pub record HasNone (names : List (List ℕ)) (ps : List CodeBinder) (d : Definition) : Type 0 where
   pub params : List Binder
-  pub are : AreBinders names ps params
+  pub are : AllZip (IsBinder names) ps params
   pub refused : (defined : List Bound) (r : Refusal) → Contains (twice params) r → RefusedDefinition defined d r
   pub back : (defined : List Bound) (r : Refusal) → RefusedDefinition defined d r → Contains (twice params) r
   pub means : (defined : List Bound) (shared : Shared) (n : Nodes) (root : ℕ) → twice params ≡ [] → n.nodes ≡ [] → root ≡ 0 → ValueMeans defined shared n d root
 
 none_value : (names : List (List ℕ)) (cells : List Cell) (i : Option ℕ) (ps : List CodeBinder) (b : Binder) (bs : List Binder) (e : Option Datum)
-    → AreBinders names ps bs → IsDefault names cells i e → i ≡ None → HasNone names ps (operation_form b bs e)
+    → AllZip (IsBinder names) ps bs → IsHeldIf names cells i e → i ≡ None → HasNone names ps (operation_form b bs e)
 none_value names cells i ps b bs None are is s = record {
   params = bs;
   are = are;
@@ -88,12 +90,12 @@ none_value names cells i ps b bs None are is s = record {
 none_value names cells i ps b bs (Some e) are is s = let u = is.1 in cc
 
 pub operation_none : (names : List (List ℕ)) (cells : List Cell) (c : CodeDefinition) (n : CodeBinder) (ps : _) (i : Option ℕ) (d : Definition)
-    → IsDefinitionOf names cells c d → c ≡ code.Operation n ps i → i ≡ None → HasNone names ps.items d
+    → IsDefinition names cells c d → c ≡ code.Operation n ps i → i ≡ None → HasNone names ps.items d
 operation_none names cells c n ps i (define b e) of is s = let t = of.2 in cc
 operation_none names cells c n ps i (lset b e) of is s = let t = of.2 in cc
 operation_none names cells c n ps i (operation_form b bs e) of is s =
     let same : of.1 ≡ ps = let t = of.3 in cc in
-    none_value names cells of.2 ps.items b bs e (subst (λ x. AreBinders names x.items bs) same of.5) of.6 (let t = of.3 in cc)
+    none_value names cells of.2 ps.items b bs e (subst (λ x. AllZip (IsBinder names) x.items bs) same of.5) of.6 (let t = of.3 in cc)
 
 -- nothing stands in an empty list alone
 pub nothing_contained : (xs : List Refusal) → ((r : Refusal) → Contains xs r → ⊥) → xs ≡ []

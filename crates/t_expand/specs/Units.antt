@@ -8,7 +8,7 @@ use Rattle.t_objects.specs.declared.words.Word.{Word}
 use Rattle.t_objects.specs.declared.words.Word.TheVariants as word
 use Rattle.t_forms.specs.Data.{Datum, atom, given, span_of, items_of, word_of, Name, written, made, is_same_name, Binder}
 use Rattle.t_forms.specs.Names.{Meaning, Bound, bound, a_global, an_op, defined_as}
-use Rattle.t_rows.specs.Rows.{Definition, define, lset, operation_form, definition_in}
+use Rattle.t_rows.specs.Rows.{Definition, define, lset, operation_form, definition_of_word}
 
 -- a form at top level: one that defines a name, a defining form that is no row, or an expression
 pub data Top : Type 0 where
@@ -29,6 +29,14 @@ defining_or_broken s (Some d) = defining d
 abbrev pub defines : Option (List Datum) → Bool
 defines (Some (f ∷ ds)) = is_defining (word_of f)
 defines _ = false
+
+abbrev pub definition_of_items : Span → Option (List Datum) → Option Definition
+definition_of_items s (Some (f ∷ ds)) = definition_of_word s ds (word_of f)
+definition_of_items s _ = None
+
+-- what a form at top level defines, where it is a row of a defining word
+abbrev pub definition_in : Datum → Option Definition
+definition_in d = definition_of_items (span_of d) (items_of d)
 
 abbrev pub top_of : Datum → Top
 top_of d = if defines (items_of d) then defining_or_broken (span_of d) (definition_in d) else expression d

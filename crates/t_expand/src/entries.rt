@@ -4,7 +4,8 @@ ghost use Rattle.t_reader.specs.Unit.{fixed_names};
 ghost use Rattle.t_objects.specs.Operations.{builtin_entries};
 ghost use Rattle.t_forms.specs.declared.arena.Cell.{Cell};
 ghost use Rattle.t_rows.specs.Rows.{Definition as SpecDefinition};
-ghost use Rattle.t_rows.specs.Definitions.{IsDefinitionOf, IsBinder};
+ghost use Rattle.t_rows.specs.Definitions.{IsDefinition};
+ghost use Rattle.t_rows.specs.Bindings.{IsBinder};
 ghost use Rattle.t_expand.specs.Units.{Top as SpecTop, Entry, defined_name, with_top, with_definition, entries_of};
 ghost use Rattle.t_expand.specs.Tops.{IsTop, AreTops};
 ghost use Rattle.t_expand.specs.Entries.{AreEntries, IsGlobalAdded, IsOpAdded, IsPut};
@@ -26,7 +27,7 @@ pub struct Entries {
 
 /// The name that a definition defines.
 pub fn defined_name(definition: &Definition) -> Binder
-    ensures { (names : List (List ℕ)) (cells : List Cell) (d : SpecDefinition) → IsDefinitionOf names cells definition.now d → IsBinder names result (defined_name d) }
+    ensures { (names : List (List ℕ)) (cells : List Cell) (d : SpecDefinition) → IsDefinition names cells definition.now d → IsBinder names result (defined_name d) }
 {
     match definition {
         Definition::Define { name, .. } => *name,
@@ -131,7 +132,7 @@ impl Entries {
 
     /// Puts what a definition defines last, if its name is new. A new variable is never defined, which is answered as want of memory.
     fn add(&mut self, definition: &Definition) -> Result<(), Memory>
-        ensures { (names : List (List ℕ)) (cells : List Cell) (d : SpecDefinition) (entries : List Entry) → AllPairs (λ a b. a ≢ b) names → IsDefinitionOf names cells definition.now d → AreEntries names self.old entries → OnOk result (AreEntries names self.new (with_definition entries d)) }
+        ensures { (names : List (List ℕ)) (cells : List Cell) (d : SpecDefinition) (entries : List Entry) → AllPairs (λ a b. a ≢ b) names → IsDefinition names cells definition.now d → AreEntries names self.old entries → OnOk result (AreEntries names self.new (with_definition entries d)) }
     {
         let name = match defined_name(definition).name {
             LocalName::Written(name) => name,

@@ -1,14 +1,16 @@
 // The forms at top level.
-ghost use Rattle.std.specs.Prelude.{◌≡◌, List, ℕ, map, IfOk};
-ghost use Rattle.t_forms.specs.Data.{Datum, items_of};
+ghost use Rattle.std.specs.Prelude.{◌≡◌, List, ℕ, ◌∷◌, [], Some, map, IfOk, OnOk};
+ghost use Rattle.t_forms.specs.Data.{Datum, span_of, items_of};
 ghost use Rattle.t_forms.specs.Held.{Held, AllHeld, Extends};
-ghost use Rattle.t_expand.specs.Units.{is_defining, defines, is_herald_items, without_herald, top_of, tops_of};
-ghost use Rattle.t_expand.specs.Tops.{IsTop, AreTops, is_herald_head};
+ghost use Rattle.t_expand.specs.Units.{definition_of_items, definition_in, is_defining, defines, is_herald_items, without_herald, top_of, tops_of};
+ghost use Rattle.t_rows.specs.Lists.{Grows, AreItems};
+ghost use Rattle.t_rows.specs.Definitions.{IsDefinitionIf};
+ghost use Rattle.t_expand.specs.Tops.{IsOperator, IsTop, AreTops, is_herald_head};
 
 use t_base::{Memory, Names, Span};
 use t_forms::{Form, Forms};
 use t_objects::Word;
-use t_rows::{Definition, defined_by, operator};
+use t_rows::{Definition, definition_of, items_of, split};
 
 /// A form at top level: what it defines, the span of a defining form that is no row, or the place of an expression.
 #[derive(Drop)]
@@ -29,6 +31,45 @@ fn is_defining(word: Option<Word>) -> bool
     }
 }
 
+/// The first item of the list that a form is, if it is a list with an item.
+fn operator(forms: &Forms, key: u32) -> Option<u32>
+    ensures { (names : List (List ℕ)) (d : Datum) → Held names forms.now key d → IsOperator names forms.now result (items_of d) }
+{
+    match items_of(forms, key) {
+        None => None,
+        Some(items) => match split(forms, items) {
+            None => None,
+            Some((head, _)) => Some(head),
+        },
+    }
+}
+
+/// What a form defines, whose items are these.
+fn defined_by_items(forms: &mut Forms, key: u32, items: u32) -> Result<Option<Definition>, Memory>
+    ensures grown { OnOk result (Grows forms.old forms.new) }
+    ensures defines { (names : List (List ℕ)) (d : Datum) (ds : List Datum) → Held names forms.old key d → AreItems names forms.old items ds → IfOk result (λ r. IsDefinitionIf names forms.new r (definition_of_items (span_of d) (Some ds))) }
+{
+    match split(forms, items) {
+        None => Ok(None),
+        Some((head, behind)) => {
+            let span = forms.span(key);
+            let word = forms.word(head);
+            definition_of(forms, span, behind, word)
+        }
+    }
+}
+
+/// What a form defines at top level. A form that isn't a row of a defining word defines nothing.
+fn defined_by(forms: &mut Forms, key: u32) -> Result<Option<Definition>, Memory>
+    ensures grown { OnOk result (Grows forms.old forms.new) }
+    ensures defines { (names : List (List ℕ)) (d : Datum) → Held names forms.old key d → IfOk result (λ r. IsDefinitionIf names forms.new r (definition_in d)) }
+{
+    match items_of(forms, key) {
+        None => Ok(None),
+        Some(items) => defined_by_items(forms, key, items),
+    }
+}
+
 /// Whether a form's operator is a defining word.
 fn defines(forms: &Forms, key: u32) -> bool
     ensures { (names : List (List ℕ)) (d : Datum) → Held names forms.now key d → result ≡ defines (items_of d) }
@@ -40,7 +81,7 @@ fn defines(forms: &Forms, key: u32) -> bool
 }
 
 fn top_of(forms: &mut Forms, key: u32) -> Result<Top, Memory>
-    ensures grown { Extends forms.old forms.new }
+    ensures grown { OnOk result (Extends forms.old forms.new) }
     ensures top { (names : List (List ℕ)) (d : Datum) → Held names forms.old key d → IfOk result (λ t. IsTop names forms.new t (top_of d)) }
 {
     if !defines(forms, key) {
@@ -92,7 +133,7 @@ fn without_herald<'a>(forms: &Forms, names: &Names, keys: &'a [u32]) -> &'a [u32
 }
 
 fn all_tops(forms: &mut Forms, keys: &[u32]) -> Result<Vec<Top>, Memory>
-    ensures grown { Extends forms.old forms.new }
+    ensures grown { OnOk result (Extends forms.old forms.new) }
     ensures tops { (names : List (List ℕ)) (ds : List Datum) → AllHeld names forms.old keys.now ds → IfOk result (λ tops. AreTops names forms.new tops.items (map top_of ds)) }
 {
     let mut tops = Vec::new(forms.alloc());
@@ -105,7 +146,7 @@ fn all_tops(forms: &mut Forms, keys: &[u32]) -> Result<Vec<Top>, Memory>
 
 /// The forms at top level of these data, without a herald in front. Cells are only added. The only error is the want of memory.
 pub fn tops_of(forms: &mut Forms, names: &Names, keys: &[u32]) -> Result<Vec<Top>, Memory>
-    ensures grown { Extends forms.old forms.new }
+    ensures grown { OnOk result (Extends forms.old forms.new) }
     ensures tops { (ds : List Datum) → AllHeld names.now forms.old keys.now ds → IfOk result (λ tops. AreTops names.now forms.new tops.items (tops_of ds)) }
 {
     let keys = without_herald(forms, names, keys);

@@ -7,7 +7,9 @@ ghost use Rattle.t_forms.specs.Data.{Binder as SpecBinder};
 ghost use Rattle.t_forms.specs.Names.{Bound};
 ghost use Rattle.t_forms.specs.Held.{Held};
 ghost use Rattle.t_rows.specs.Rows.{Definition as SpecDefinition, refusal, twice};
-ghost use Rattle.t_rows.specs.Definitions.{IsDefinitionOf, IsBinder, AreBinders};
+ghost use Rattle.t_rows.specs.Definitions.{IsDefinition};
+ghost use Rattle.t_rows.specs.Bindings.{IsBinder};
+ghost use Rattle.std.specs.List.{AllZip};
 ghost use Rattle.t_expand.specs.Growth.{IsGrown, Keeps, IsReady};
 ghost use Rattle.t_expand.specs.Marks.{Marks};
 ghost use Rattle.t_expand.specs.Tops.{IsTop};
@@ -143,7 +145,7 @@ impl Expansion {
         ensures nodes { IfOk result (λ x. x.nodes.items ≡ []) }
         ensures spans { IfOk result (λ x. x.spans.items ≡ []) }
         ensures root { IfOk result (λ x. x.root ≡ 0) }
-        ensures refused { (bs : List SpecBinder) (defined : List Bound) → IsReady self.old defined → AreBinders self.old.shared.names params.now bs → OnOk result (IsFirstOf (λ r. (self.old.first ≡ Some r) ⊎ Contains (twice bs) r) self.new.first) }
+        ensures refused { (bs : List SpecBinder) (defined : List Bound) → IsReady self.old defined → AllZip (IsBinder self.old.shared.names) params.now bs → OnOk result (IsFirstOf (λ r. (self.old.first ≡ Some r) ⊎ Contains (twice bs) r) self.new.first) }
     {
         let refusals = twice(self.alloc, params)?;
         self.note(refusals.as_slice());
@@ -152,10 +154,10 @@ impl Expansion {
 
     /// The nodes of what a definition defines.
     fn expand_value(&mut self, definition: &Definition) -> Result<Rooted, Memory>
-        ensures kept { (d : SpecDefinition) (defined : List Bound) → IsReady self.old defined → IsDefinitionOf self.old.shared.names self.old.forms definition.now d → OnOk result (Keeps self.old self.new) }
+        ensures kept { (d : SpecDefinition) (defined : List Bound) → IsReady self.old defined → IsDefinition self.old.shared.names self.old.forms definition.now d → OnOk result (Keeps self.old self.new) }
         ensures lengths { IfOk result (λ x. length x.spans.items ≡ length x.nodes.items) }
-        ensures refused { (d : SpecDefinition) (defined : List Bound) → IsReady self.old defined → IsDefinitionOf self.old.shared.names self.old.forms definition.now d → OnOk result (IsFirstOf (λ r. (self.old.first ≡ Some r) ⊎ RefusedDefinition defined d r) self.new.first) }
-        ensures meant { (d : SpecDefinition) (defined : List Bound) → IsReady self.old defined → IsDefinitionOf self.old.shared.names self.old.forms definition.now d → IfOk result (λ x. self.new.first ≡ None → (later : SharedParts) → IsGrown self.new.shared later → ValueMeans defined later (nodes_of x) d x.root) }
+        ensures refused { (d : SpecDefinition) (defined : List Bound) → IsReady self.old defined → IsDefinition self.old.shared.names self.old.forms definition.now d → OnOk result (IsFirstOf (λ r. (self.old.first ≡ Some r) ⊎ RefusedDefinition defined d r) self.new.first) }
+        ensures meant { (d : SpecDefinition) (defined : List Bound) → IsReady self.old defined → IsDefinition self.old.shared.names self.old.forms definition.now d → IfOk result (λ x. self.new.first ≡ None → (later : SharedParts) → IsGrown self.new.shared later → ValueMeans defined later (nodes_of x) d x.root) }
     {
         match definition {
             Definition::Define { value, .. } => self.expand_root(*value),
@@ -173,7 +175,7 @@ impl Expansion {
 
     /// What a definition is kept as. Where its name was defined otherwise before, which is refused, it doesn't matter.
     fn kind(&self, definition: &Definition) -> Result<FormKind, Memory>
-        ensures { (cells : List Cell) (d : SpecDefinition) (defined : List Bound) → IsReady self.now defined → IsDefinitionOf self.now.shared.names cells definition.now d → IfOk result (λ k. self.now.first ≡ None → IsKind k d (meaning_of defined d)) }
+        ensures { (cells : List Cell) (d : SpecDefinition) (defined : List Bound) → IsReady self.now defined → IsDefinition self.now.shared.names cells definition.now d → IfOk result (λ k. self.now.first ≡ None → IsKind k d (meaning_of defined d)) }
     {
         let name = defined_name(definition).name;
         let meant = self.scope.meaning(&self.shared.names, name);
@@ -210,10 +212,10 @@ impl Expansion {
         marks: &mut NameMarks,
         definition: &Definition,
     ) -> Result<Expanded, Memory>
-        ensures kept { (d : SpecDefinition) (defined : List Bound) → IsReady self.old defined → IsDefinitionOf self.old.shared.names self.old.forms definition.now d → OnOk result (Keeps self.old self.new) }
-        ensures refused { (before : List SpecTop) (d : SpecDefinition) (defined : List Bound) → IsReady self.old defined → IsDefinitionOf self.old.shared.names self.old.forms definition.now d → Marks self.old.shared.names marks.old (names_defined before) → OnOk result (IsFirstOf (λ r. (self.old.first ≡ Some r) ⊎ RefusedTop defined before (defining d) r) self.new.first) }
-        ensures marked { (before : List SpecTop) (d : SpecDefinition) (defined : List Bound) → IsReady self.old defined → IsDefinitionOf self.old.shared.names self.old.forms definition.now d → Marks self.old.shared.names marks.old (names_defined before) → OnOk result (Marks self.old.shared.names marks.new (names_defined (before ++ defining d ∷ []))) }
-        ensures meant { (d : SpecDefinition) (defined : List Bound) → IsReady self.old defined → IsDefinitionOf self.old.shared.names self.old.forms definition.now d → IfOk result (λ x. self.new.first ≡ None → (later : SharedParts) → IsGrown self.new.shared later → FormMeans defined later x.form x.spans (defining d)) }
+        ensures kept { (d : SpecDefinition) (defined : List Bound) → IsReady self.old defined → IsDefinition self.old.shared.names self.old.forms definition.now d → OnOk result (Keeps self.old self.new) }
+        ensures refused { (before : List SpecTop) (d : SpecDefinition) (defined : List Bound) → IsReady self.old defined → IsDefinition self.old.shared.names self.old.forms definition.now d → Marks self.old.shared.names marks.old (names_defined before) → OnOk result (IsFirstOf (λ r. (self.old.first ≡ Some r) ⊎ RefusedTop defined before (defining d) r) self.new.first) }
+        ensures marked { (before : List SpecTop) (d : SpecDefinition) (defined : List Bound) → IsReady self.old defined → IsDefinition self.old.shared.names self.old.forms definition.now d → Marks self.old.shared.names marks.old (names_defined before) → OnOk result (Marks self.old.shared.names marks.new (names_defined (before ++ defining d ∷ []))) }
+        ensures meant { (d : SpecDefinition) (defined : List Bound) → IsReady self.old defined → IsDefinition self.old.shared.names self.old.forms definition.now d → IfOk result (λ x. self.new.first ≡ None → (later : SharedParts) → IsGrown self.new.shared later → FormMeans defined later x.form x.spans (defining d)) }
     {
         self.look_for_twice(marks, defined_name(definition))?;
         let rooted = self.expand_value(definition)?;

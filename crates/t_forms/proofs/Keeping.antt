@@ -2,17 +2,14 @@
 use Rattle.std.proofs.Common.{subst, ◌≡◌, ℕ, ◌<◌, List, [], ◌∷◌, ◌++◌, length, slice_get, Option, Some, None, sym, ap, ◌∙◌, append_assoc, length-append, append-nil, arith}
 use Rattle.std.proofs.lemmas.Option.{slice_get_within, slice_get-get_or, get_or_from_slice_get}
 use Rattle.std.proofs.Math.ListN.{get_or-append}
-use Rattle.t_base.specs.declared.basics.Span.{Span}
 use Rattle.t_reader.specs.Grammar.{fix, char, nil, truth, string, symbol}
 use Rattle.t_objects.specs.declared.words.Word.{Word}
 use Rattle.t_objects.specs.Words.{word_named}
 use Rattle.t_forms.specs.declared.arena.Form.{Form}
 use Rattle.t_forms.specs.declared.arena.Cell.{Cell}
-use Rattle.t_forms.specs.declared.making.Item.{Item}
-use Rattle.t_forms.specs.declared.making.Item.TheVariants as item
 use Rattle.t_forms.specs.declared.scope.LocalName.{LocalName}
 use Rattle.t_forms.specs.Data.{Atom, given, variable, builtin, operation, listing, Datum, atom, cons, Name, written, made}
-use Rattle.t_forms.specs.Held.{IsSymbol, IsAtom, Held, Continues, AllHeld, Extends, IsItem, AllItems, IsName, AreNames}
+use Rattle.t_forms.specs.Held.{IsSymbol, IsAtom, Held, Continues, AllHeld, Extends, IsName, AreNames}
 
 -- what stands at a place stays there
 abbrev pub Keeps : {A : Type 0} → List A → List A → Type 0
@@ -88,23 +85,6 @@ all_held_grow g names [] [] h = tt
 all_held_grow g names [] (d ∷ ds) h = absurd h
 all_held_grow g names (k ∷ ks) [] h = absurd h
 all_held_grow g names (k ∷ ks) (d ∷ ds) h = (held_grows g names k d h.0, all_held_grow g names ks ds h.1)
-
-pub item_grows : {a b : List Cell} → Extends a b → (names : List (List ℕ)) (s : Span) (i : Item) (d : Datum) → IsItem names a s i d → IsItem names b s i d
-item_grows g names s (item.Form k) d h = held_grows g names k d h
-item_grows g names s (item.Word w) d h = h
-item_grows g names s (item.Variable v) d h = h
-item_grows g names s (item.Builtin p) d h = h
-item_grows g names s (item.Operation o) d h = h
-item_grows g names s item.Listing d h = h
-item_grows g names s item.Nil d h = h
-item_grows g names s item.True d h = h
-
-pub all_items_grow : {a b : List Cell} → Extends a b → (names : List (List ℕ)) (s : Span) (is : List Item) (ds : List Datum) → AllItems names a s is ds
-    → AllItems names b s is ds
-all_items_grow g names s [] [] h = tt
-all_items_grow g names s [] (d ∷ ds) h = absurd h
-all_items_grow g names s (i ∷ is) [] h = absurd h
-all_items_grow g names s (i ∷ is) (d ∷ ds) h = (item_grows g names s i d h.0, all_items_grow g names s is ds h.1)
 
 -- ---- under more names
 

@@ -1,6 +1,5 @@
 -- What cells stand for: data, names and the names around a form.
 use Rattle.std.specs.Prelude.{◌≡◌, ℕ, ◌<◌, List, [], ◌∷◌, ◌++◌, map, slice_get, Option, Some, None}
-use Rattle.std.specs.Global.{Vec}
 use Rattle.t_base.specs.declared.basics.Name.{Name as NamePlace}
 use Rattle.t_base.specs.declared.basics.Span.{Span}
 use Rattle.t_base.specs.declared.basics.Var.{Var}
@@ -11,8 +10,6 @@ use Rattle.t_forms.specs.declared.arena.New.{New}
 use Rattle.t_forms.specs.declared.arena.Form.{Form}
 use Rattle.t_forms.specs.declared.arena.Form.TheVariants as form
 use Rattle.t_forms.specs.declared.arena.Cell.{Cell}
-use Rattle.t_forms.specs.declared.making.Item.{Item}
-use Rattle.t_forms.specs.declared.making.Item.TheVariants as item
 use Rattle.t_forms.specs.declared.scope.LocalName.{LocalName}
 use Rattle.t_forms.specs.declared.scope.LocalName.TheVariants as key
 use Rattle.t_forms.specs.declared.scope.Local.{Local}
@@ -66,45 +63,16 @@ AllHeld names cells [] [] = Unit {0}
 AllHeld names cells (k ∷ ks) (d ∷ ds) = Held names cells k d × AllHeld names cells ks ds
 AllHeld names cells _ _ = ⊥
 
--- the parts of a pair, which stand before it; other data have none
-abbrev pub ArePartsOf : List (List ℕ) → List Cell → ℕ → Datum → Option (ℕ × ℕ) → Type 0
-ArePartsOf names cells k (atom s a) parts = parts ≡ None
-ArePartsOf names cells k (cons s head tail) parts =
-    (i : ℕ) × (j : ℕ) × (parts ≡ Some (i, j)) × (i < k) × (j < k) × Held names cells i head × Continues names cells j tail
-
 -- how many items the cell of a list keeps
 abbrev pub count_form : Form → Option ℕ
 count_form (form.Pair i j n) = n
 count_form form.Nil = Some 0
 count_form _ = None
 
--- the cells of the items of a list; other data have none
-abbrev pub AreItems : List (List ℕ) → List Cell → Option (List Datum) → Option (Vec ℕ) → Type 0
-AreItems names cells None keys = keys ≡ None
-AreItems names cells (Some ds) keys = (v : Vec ℕ) × (keys ≡ Some v) × AllHeld names cells v.items ds
-
 -- the second list of cells goes on the first
 pub record Extends (cells larger : List Cell) : Type 0 where
   pub more : List Cell
   pub is : larger ≡ cells ++ more
-
--- ---- what a row makes
-
--- an item of a list that a row makes, which has the list's span unless it stands in the text
-abbrev pub IsItem : List (List ℕ) → List Cell → Span → Item → Datum → Type 0
-IsItem names cells s (item.Form k) d = Held names cells k d
-IsItem names cells s (item.Word w) d = (text : List ℕ) × (d ≡ atom s (given (symbol text))) × (word_named text ≡ Some w)
-IsItem names cells s (item.Variable v) d = d ≡ atom s (variable v)
-IsItem names cells s (item.Builtin p) d = d ≡ atom s (builtin p)
-IsItem names cells s (item.Operation o) d = d ≡ atom s (operation o)
-IsItem names cells s item.Listing d = d ≡ atom s listing
-IsItem names cells s item.Nil d = d ≡ atom s (given nil)
-IsItem names cells s item.True d = d ≡ atom s (given truth)
-
-abbrev pub AllItems : List (List ℕ) → List Cell → Span → List Item → List Datum → Type 0
-AllItems names cells s [] [] = Unit {0}
-AllItems names cells s (i ∷ is) (d ∷ ds) = IsItem names cells s i d × AllItems names cells s is ds
-AllItems names cells s _ _ = ⊥
 
 -- ---- names
 
@@ -116,11 +84,6 @@ abbrev pub AreNames : List (List ℕ) → List LocalName → List Name → Type 
 AreNames names [] [] = Unit {0}
 AreNames names (k ∷ ks) (n ∷ ns) = IsName names k n × AreNames names ks ns
 AreNames names _ _ = ⊥
-
--- the name that a datum is, if it is one
-abbrev pub IsNameIf : List (List ℕ) → Option Name → Option LocalName → Type 0
-IsNameIf names None k = k ≡ None
-IsNameIf names (Some n) k = (m : LocalName) × (k ≡ Some m) × IsName names m n
 
 -- what the unit defines the name as
 abbrev pub IsDefined : Option Defined → Option Meaning → Type 0

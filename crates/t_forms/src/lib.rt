@@ -14,5 +14,4 @@ mod scope;
 pub use crate::arena::{Cell, Form, Forms, New};
 pub use crate::builtins::builtin_of;
 pub use crate::loading::load;
-pub use crate::making::Item;
 pub use crate::scope::{Defined, Local, LocalName, Meant, Scope};

@@ -5,3 +5,10 @@ pub mod EscapeMonotone
 pub mod EscapeBounds
 pub mod EscapeLaws
 pub mod EscapeCalled
+pub mod BoundLemmas
+pub mod BoundTasks
+pub mod CostLemmas
+pub mod CostRows
+pub mod CostTasks
+pub mod CatchLemmas
+pub mod SumUnits

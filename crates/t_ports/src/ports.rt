@@ -5,16 +5,23 @@ ghost use Rattle.t_ports.specs.Files.{Files, IfTold, IfBothTold, IsSame, Puts, F
 
 use std::alloc::Global;
 
+/// Why no bytes were fetched.
 #[derive(Clone, Copy, Debug, PartialEq, Eq)]
 pub enum FetchFault {
+    /// They could not be read, as where there are none under the name.
     Failed,
+    /// There are more of them than the cap, and so many were read.
     Long { read: usize },
+    /// There was no memory.
     Memory,
 }
 
+/// Why bytes were not kept.
 #[derive(Clone, Copy, Debug, PartialEq, Eq)]
 pub enum KeepFault {
+    /// They could not be written.
     Failed,
+    /// There was no memory.
     Memory,
 }
 
@@ -23,10 +30,13 @@ pub trait Folder {
     /// The bytes under each name, where they are told.
     ghost files: { Self → Option Files };
 
+    /// How many fetches failed, up to the last number of the count.
     ghost fetch_faults: { Self → ℕ };
 
+    /// How many keeps failed, counted alike.
     ghost keep_faults: { Self → ℕ };
 
+    /// The bytes under the name, at most `cap` of them.
     fn fetch(&mut self, alloc: Global, name: &str, cap: usize) -> Result<Vec<u8>, FetchFault>
         ensures same { IfBothTold (files self.old) (files self.new) IsSame }
         ensures bytes { IfOk result (λ v. IfTold (files self.old) (λ f. f name.now ≡ Some v.items)) }
@@ -36,6 +46,7 @@ pub trait Folder {
         ensures cause { IfErr result (FetchCause (fetch_faults self.old) (fetch_faults self.new)) }
         ensures keeps { keep_faults self.new ≡ keep_faults self.old };
 
+    /// Puts the bytes under the name, in the place of those that are there. Where this fails, what is told of the content stays.
     fn keep(&mut self, alloc: Global, name: &str, bytes: &[u8]) -> Result<(), KeepFault>
         ensures ok { OnOk result (IfBothTold (files self.old) (files self.new) (Puts name.now bytes.now)) }
         ensures err { OnErr result (IfBothTold (files self.old) (files self.new) IsSame) }
@@ -44,9 +55,10 @@ pub trait Folder {
         ensures fetches { fetch_faults self.new ≡ fetch_faults self.old };
 }
 
-/// A put took only the first bytes.
+/// A put failed.
 #[derive(Clone, Copy, Debug, PartialEq, Eq)]
 pub struct Failed {
+    /// So many bytes were taken, the first ones.
     pub taken: usize,
 }
 
@@ -55,19 +67,23 @@ pub trait Sink {
     /// The sink before became the sink after by taking exactly these bytes.
     ghost took: { Self → List ℕ → Self → Type 0 };
 
+    /// How many puts failed, up to the last number of the count.
     ghost faults: { Self → ℕ };
 
+    /// Takes the whole piece, or as many of its first bytes as the error says.
     fn put(&mut self, bytes: &[u8]) -> Result<(), Failed>
         ensures ok { OnOk result (took self.old bytes.now self.new) }
         ensures err { IfErr result (λ e. (e.taken ≤ length bytes.now) × took self.old (take e.taken bytes.now) self.new) }
         ensures cause { HasCause (faults self.old) (faults self.new) result };
 
+    /// A sink took nothing to become itself.
     ghost took_nothing: { (sink : Self) → took sink [] sink };
 
+    /// Two takings after each other are one of both.
     ghost took_both: { (a b c : Self) (first second : List ℕ) → took a first b → took b second c → took a (first ++ second) c };
 }
 
-/// Takes nothing down.
+/// Takes every piece, and tells nothing.
 #[derive(Clone, Copy, Debug)]
 pub struct NullSink;
 

@@ -81,7 +81,7 @@ body s bs = listed s (atom s (given (symbol (codes "block"))) ∷ bs)
 abbrev pub word_ : Span → List ℕ → Datum
 word_ s text = atom s (given (symbol text))
 
--- each one of a name that stands in the list before it
+-- the second one of each name that stands twice in a list
 abbrev pub twice_after : List Name → List Binder → List Refusal
 twice_after before [] = []
 twice_after before (b ∷ others) =
@@ -168,9 +168,8 @@ binding e b = record { binds = b; value = e }
 
 -- ((f x ..) B ..)
 abbrev pub procedure_item : Span → List Datum → List Datum → Option Binding
-procedure_item s (b ∷ bs) (f ∷ xs) =
-    option_and_then (λ ps. option_map (binding (lambda_form s (listed s xs) (b ∷ bs))) (binder_of f)) (binders_of xs)
-procedure_item s _ _ = None
+procedure_item s bs [] = None
+procedure_item s bs (f ∷ xs) = option_map (binding (lambda_form s (listed s xs) bs)) (binder_of f)
 
 abbrev pub is_lambda_word : Datum → Bool
 is_lambda_word d = is_lambda (word_of d)
@@ -204,19 +203,20 @@ abbrev pub labels_row : Span → List Datum → Row
 labels_row s (d ∷ b ∷ bs) = if_formed s (labels_node s (b ∷ bs)) (labels_items s d)
 labels_row s _ = no_row s
 
+abbrev pub name_atom : Name → Atom
+name_atom (written text) = given (symbol text)
+name_atom (made n) = variable n
+
+-- the datum that a name is where it is bound
+abbrev pub name_datum : Binder → Datum
+name_datum b = atom b.at (name_atom b.name)
+
 -- LABELS of f with the body (f e ..), in which f has a name of its own, since the e stand outside its scope
 abbrev pub iterate_node : Span → List Datum → Binder → List Binding → Row
 iterate_node s bs f xs =
     node labels []
     (inside (f.name ∷ []) (lambda_form s (listed s (map (λ x. name_datum x.binds) xs)) bs)
     ∷ inside (made new.Start ∷ []) (listed s (a_variable f.at new.Start ∷ map (λ x. x.value) xs)) ∷ [])
-  where
-    name_datum : Binder → Datum
-    name_datum b = atom b.at (name_atom b.name)
-      where
-        name_atom : Name → Atom
-        name_atom (written text) = given (symbol text)
-        name_atom (made n) = variable n
 
 -- (iterate f ((x e) ..) B ..)
 abbrev pub iterate_row : Span → List Datum → Row
@@ -551,14 +551,6 @@ definition_of_word s ds (Some word.Define) = define_of s ds
 definition_of_word s ds (Some word.Lset) = lset_of ds
 definition_of_word s ds (Some word.DefineOperation) = define_operation_of s ds
 definition_of_word s ds _ = None
-
-abbrev pub definition_of_items : Span → Option (List Datum) → Option Definition
-definition_of_items s (Some (f ∷ ds)) = definition_of_word s ds (word_of f)
-definition_of_items s _ = None
-
--- what a form at top level defines, where it is a row of a defining word
-abbrev pub definition_in : Datum → Option Definition
-definition_in d = definition_of_items (span_of d) (items_of d)
 
 -- elsewhere than at top level
 abbrev pub inner_definition : Span → Option Definition → Row

@@ -1,25 +1,25 @@
-// What a form at top level defines.
-ghost use Rattle.std.specs.Prelude.{◌≡◌, ◌≢◌, List, ℕ, AllPairs, IfOk};
-ghost use Rattle.t_forms.specs.Data.{Datum, items_of};
-ghost use Rattle.t_forms.specs.Data.{Binder as SpecBinder};
-ghost use Rattle.t_forms.specs.Held.{Held, Extends};
-ghost use Rattle.t_rows.specs.Rows.{definition_in, twice};
-ghost use Rattle.t_rows.specs.Definitions.{head_of, IsOperator, IsDefinition, AreBinders};
+//! Defining forms.
+ghost use Rattle.std.specs.Prelude.{◌≡◌, ◌∷◌, false, List, ℕ, is_some, IfOk, OnOk};
+ghost use Rattle.t_base.specs.declared.basics.Var.{Var};
+ghost use Rattle.t_forms.specs.Data.{Datum, binders_of};
+ghost use Rattle.t_forms.specs.Held.{Held};
+ghost use Rattle.t_rows.specs.Bindings.{IsBinder, IsAllOf};
+ghost use Rattle.t_rows.specs.Definitions.{IsDefinitionIf, IsHeldIf};
+ghost use Rattle.t_rows.specs.Given.{IsRow};
+ghost use Rattle.t_rows.specs.Lists.{Grows, AreItems, is_pair};
+ghost use Rattle.t_rows.specs.Rows.{define_procedure, define_of, lset_of, default_of, define_operation_with, define_operation_of, definition_of_word, inner_definition};
 
-use crate::refusal::Refusal;
-use std::alloc::Global;
+use crate::lists::{Few, few_items, is_pair, items_of, keys_of, split, with_body};
+use crate::names::{Binder, binder_of, binders_of};
+use crate::nodes::bad;
+use crate::refusal::{Refusal, SyntaxKind};
+use crate::rows::{Row, Shape};
+use crate::words::lambda_form;
 use t_base::{Memory, Span};
-use t_forms::{Form, Forms, LocalName};
+use t_forms::Forms;
+use t_objects::Word;
 
-/// A name where it is bound or defined.
-#[derive(Clone, Copy, PartialEq, Eq, Debug)]
-pub struct Binder {
-    pub at: Span,
-    pub name: LocalName,
-}
-
-/// What a defining form at top level defines: a name, with the form of its value, or an operation with its parameters and the LAMBDA
-/// of its default.
+/// What a defining form defines. Places are those of forms among the cells.
 #[derive(Drop)]
 pub enum Definition {
     Define {
@@ -30,6 +30,7 @@ pub enum Definition {
         name: Binder,
         value: u32,
     },
+    /// An operation, its parameters, and the LAMBDA of its default.
     Operation {
         name: Binder,
         params: Vec<Binder>,
@@ -37,39 +38,275 @@ pub enum Definition {
     },
 }
 
-fn head_of(form: &Form) -> Option<u32>
-    ensures { result ≡ head_of form.now }
+/// The names that items are, if each is one.
+pub fn item_names(forms: &Forms, items: u32) -> Result<Option<Vec<Binder>>, Memory>
+    ensures { (names : List (List ℕ)) (ds : List Datum) → AreItems names forms.now items ds → IfOk result (λ r. IsAllOf (IsBinder names) r (binders_of ds)) }
 {
-    match form {
-        Form::Pair { head, count, .. } => match count {
-            Some(_) => Some(*head),
-            None => None,
+    let keys = keys_of(forms, items)?;
+    let binders = binders_of(forms, keys.as_slice())?;
+    Ok(binders)
+}
+
+fn are_names(forms: &Forms, items: u32) -> Result<bool, Memory>
+    ensures { (names : List (List ℕ)) (ds : List Datum) → AreItems names forms.now items ds → IfOk result (λ b. b ≡ is_some (binders_of ds)) }
+{
+    let found = item_names(forms, items)?;
+    Ok(found.is_some())
+}
+
+/// `(define (f x ..) B ..)`
+fn define_procedure(
+    forms: &mut Forms,
+    span: Span,
+    name: u32,
+    params: u32,
+    items: u32,
+) -> Result<Option<Definition>, Memory>
+    ensures grown { OnOk result (Grows forms.old forms.new) }
+    ensures definition { (names : List (List ℕ)) (f : Datum) (xs : List Datum) (b : Datum) (bs : List Datum) → Held names forms.old name f → AreItems names forms.old params xs → AreItems names forms.old items (b ∷ bs) → IfOk result (λ r. IsDefinitionIf names forms.new r (define_procedure span (f ∷ xs) (b ∷ bs))) }
+{
+    let named = are_names(forms, params)?;
+    if named {
+        match binder_of(forms, name) {
+            None => Ok(None),
+            Some(name) => {
+                let value = lambda_form(forms, span, params, items)?;
+                Ok(Some(Definition::Define { name, value }))
+            }
+        }
+    } else {
+        Ok(None)
+    }
+}
+
+/// `(define (f x ..) B ..)`, by its head's items.
+fn define_headed(
+    forms: &mut Forms,
+    span: Span,
+    head: u32,
+    items: u32,
+) -> Result<Option<Definition>, Memory>
+    ensures grown { OnOk result (Grows forms.old forms.new) }
+    ensures definition { (names : List (List ℕ)) (fs : List Datum) (bs : List Datum) → AreItems names forms.old head fs → AreItems names forms.old items bs → IfOk result (λ r. IsDefinitionIf names forms.new r (define_procedure span fs bs)) }
+{
+    match split(forms, head) {
+        None => Ok(None),
+        Some((name, params)) => match split(forms, items) {
+            None => Ok(None),
+            Some(_) => define_procedure(forms, span, name, params, items),
         },
-        _ => None,
     }
 }
 
-/// The first item of the list that a form is, if it is a list with an item. It takes no memory.
-pub fn operator(forms: &Forms, key: u32) -> Option<u32>
-    ensures { (names : List (List ℕ)) (d : Datum) → Held names forms.now key d → IsOperator names forms.now result (items_of d) }
+/// `(define x e)`
+fn define_name(forms: &mut Forms, name: u32, items: u32) -> Result<Option<Definition>, Memory>
+    ensures grown { OnOk result (Grows forms.old forms.new) }
+    ensures definition { (names : List (List ℕ)) (s : Span) (x : Datum) (bs : List Datum) → is_pair x ≡ false → Held names forms.old name x → AreItems names forms.old items bs → IfOk result (λ r. IsDefinitionIf names forms.new r (define_of s (x ∷ bs))) }
 {
-    match forms.get(key) {
-        Some(cell) => head_of(&cell.form),
-        None => None,
+    match few_items(forms, items) {
+        Few::One(value) => match binder_of(forms, name) {
+            None => Ok(None),
+            Some(name) => Ok(Some(Definition::Define { name, value })),
+        },
+        Few::Zero => Ok(None),
+        Few::Two(_, _) => Ok(None),
+        Few::Three(_, _, _) => Ok(None),
+        Few::More => Ok(None),
     }
 }
 
-/// What a form defines at top level. A form that isn't a row of DEFINE, LSET or DEFINE-OPERATION defines nothing. Cells are only added. The only error is the want of memory.
-pub fn defined_by(forms: &mut Forms, key: u32) -> Result<Option<Definition>, Memory>
-    ensures grown { Extends forms.old forms.new }
-    ensures defines { (names : List (List ℕ)) (d : Datum) → Held names forms.old key d → IfOk result (λ r. IsDefinition names forms.new r (definition_in d)) }
+/// `(define x e)`, `(define (f x ..) B ..)`
+fn define_of(forms: &mut Forms, span: Span, items: u32) -> Result<Option<Definition>, Memory>
+    ensures grown { OnOk result (Grows forms.old forms.new) }
+    ensures definition { (names : List (List ℕ)) (ds : List Datum) → AreItems names forms.old items ds → IfOk result (λ r. IsDefinitionIf names forms.new r (define_of span ds)) }
 {
-    Err(Memory)
+    match split(forms, items) {
+        None => Ok(None),
+        Some((first, behind)) => {
+            if is_pair(forms, first) {
+                match items_of(forms, first) {
+                    None => Ok(None),
+                    Some(head) => define_headed(forms, span, head, behind),
+                }
+            } else {
+                define_name(forms, first, behind)
+            }
+        }
+    }
 }
 
-/// The refusals of names that stand in the list before. The only error is the want of memory.
-pub fn twice(alloc: Global, binders: &[Binder]) -> Result<Vec<Refusal>, Memory>
-    ensures { (names : List (List ℕ)) (bs : List SpecBinder) → AllPairs (λ a b. a ≢ b) names → AreBinders names binders.now bs → IfOk result (λ rs. rs.items ≡ twice bs) }
+/// `(lset x e)`
+fn lset_of(forms: &mut Forms, items: u32) -> Result<Option<Definition>, Memory>
+    ensures grown { OnOk result (Grows forms.old forms.new) }
+    ensures definition { (names : List (List ℕ)) (ds : List Datum) → AreItems names forms.old items ds → IfOk result (λ r. IsDefinitionIf names forms.new r (lset_of ds)) }
 {
-    Err(Memory)
+    match few_items(forms, items) {
+        Few::Two(name, value) => match binder_of(forms, name) {
+            None => Ok(None),
+            Some(name) => Ok(Some(Definition::Lset { name, value })),
+        },
+        Few::Zero => Ok(None),
+        Few::One(_) => Ok(None),
+        Few::Three(_, _, _) => Ok(None),
+        Few::More => Ok(None),
+    }
+}
+
+/// The LAMBDA of a default, if there is a body.
+fn default_of(forms: &mut Forms, span: Span, params: u32, items: u32) -> Result<Option<u32>, Memory>
+    ensures grown { OnOk result (Grows forms.old forms.new) }
+    ensures made { (names : List (List ℕ)) (xs : List Datum) (bs : List Datum) → AreItems names forms.old params xs → AreItems names forms.old items bs → IfOk result (λ k. IsHeldIf names forms.new k (default_of span xs bs)) }
+{
+    match split(forms, items) {
+        None => Ok(None),
+        Some(_) => {
+            let form = lambda_form(forms, span, params, items)?;
+            Ok(Some(form))
+        }
+    }
+}
+
+/// `(define-operation (op self x ..) B ..)`, where `self x ..` are these items.
+fn define_operation_with(
+    forms: &mut Forms,
+    span: Span,
+    name: u32,
+    params: u32,
+    items: u32,
+) -> Result<Option<Definition>, Memory>
+    ensures grown { OnOk result (Grows forms.old forms.new) }
+    ensures definition { (names : List (List ℕ)) (op : Datum) (me : Datum) (xs : List Datum) (bs : List Datum) → Held names forms.old name op → AreItems names forms.old params (me ∷ xs) → AreItems names forms.old items bs → IfOk result (λ r. IsDefinitionIf names forms.new r (define_operation_with span (op ∷ me ∷ xs) bs)) }
+{
+    let found = item_names(forms, params)?;
+    match found {
+        None => Ok(None),
+        Some(binders) => match binder_of(forms, name) {
+            None => Ok(None),
+            Some(name) => {
+                let default = default_of(forms, span, params, items)?;
+                Ok(Some(Definition::Operation {
+                    name,
+                    params: binders,
+                    default,
+                }))
+            }
+        },
+    }
+}
+
+/// `(define-operation op)`
+fn define_operation_named(
+    forms: &mut Forms,
+    name: u32,
+    items: u32,
+) -> Result<Option<Definition>, Memory>
+    ensures grown { OnOk result (Grows forms.old forms.new) }
+    ensures definition { (names : List (List ℕ)) (s : Span) (x : Datum) (bs : List Datum) → is_pair x ≡ false → Held names forms.old name x → AreItems names forms.old items bs → IfOk result (λ r. IsDefinitionIf names forms.new r (define_operation_of s (x ∷ bs))) }
+{
+    match split(forms, items) {
+        None => match binder_of(forms, name) {
+            None => Ok(None),
+            Some(name) => Ok(Some(Definition::Operation {
+                name,
+                params: Vec::new(forms.alloc()),
+                default: None,
+            })),
+        },
+        Some(_) => Ok(None),
+    }
+}
+
+/// `(define-operation op)`, `(define-operation (op self x ..) B ..)`
+fn define_operation_of(
+    forms: &mut Forms,
+    span: Span,
+    items: u32,
+) -> Result<Option<Definition>, Memory>
+    ensures grown { OnOk result (Grows forms.old forms.new) }
+    ensures definition { (names : List (List ℕ)) (ds : List Datum) → AreItems names forms.old items ds → IfOk result (λ r. IsDefinitionIf names forms.new r (define_operation_of span ds)) }
+{
+    match split(forms, items) {
+        None => Ok(None),
+        Some((first, behind)) => {
+            if is_pair(forms, first) {
+                match items_of(forms, first) {
+                    None => Ok(None),
+                    Some(head) => match with_body(forms, head) {
+                        None => Ok(None),
+                        Some((name, params)) => define_operation_with(
+                            forms, span, name, params, behind,
+                        ),
+                    },
+                }
+            } else {
+                define_operation_named(forms, first, behind)
+            }
+        }
+    }
+}
+
+/// What a form of a word with items behind it defines, if it is a well-formed defining form.
+pub fn definition_of(
+    forms: &mut Forms,
+    span: Span,
+    items: u32,
+    word: Option<Word>,
+) -> Result<Option<Definition>, Memory>
+    ensures grown { OnOk result (Grows forms.old forms.new) }
+    ensures definition { (names : List (List ℕ)) (ds : List Datum) → AreItems names forms.old items ds → IfOk result (λ r. IsDefinitionIf names forms.new r (definition_of_word span ds word)) }
+{
+    match word {
+        Some(Word::Define) => define_of(forms, span, items),
+        Some(Word::Lset) => lset_of(forms, items),
+        Some(Word::DefineOperation) => define_operation_of(forms, span, items),
+        Some(_) => Ok(None),
+        None => Ok(None),
+    }
+}
+
+fn malformed(forms: &mut Forms, span: Span) -> Result<Row, Memory>
+    ensures grown { OnOk result (Grows forms.old forms.new) }
+    ensures row { (names : List (List ℕ)) (vars : List Var) → IfOk result (λ r. IsRow names forms.new vars r (inner_definition span None)) }
+{
+    let mut refusals = Vec::new(forms.alloc());
+    refusals.push(Refusal {
+        kind: SyntaxKind::BadForm,
+        span,
+    })?;
+    refusals.push(Refusal {
+        kind: SyntaxKind::NotTopLevel,
+        span,
+    })?;
+    Ok(Row::Node {
+        shape: Shape::Nothing,
+        refusals,
+        parts: Vec::new(forms.alloc()),
+    })
+}
+
+fn is_definition(forms: &mut Forms, span: Span, items: u32, word: Word) -> Result<bool, Memory>
+    ensures grown { OnOk result (Grows forms.old forms.new) }
+    ensures is { (names : List (List ℕ)) (ds : List Datum) → AreItems names forms.old items ds → IfOk result (λ b. b ≡ is_some (definition_of_word span ds (Some word))) }
+{
+    let found = definition_of(forms, span, items, Some(word))?;
+    Ok(found.is_some())
+}
+
+/// A defining form elsewhere than at top level.
+pub fn inner_definition(
+    forms: &mut Forms,
+    span: Span,
+    items: u32,
+    word: Word,
+) -> Result<Row, Memory>
+    ensures grown { OnOk result (Grows forms.old forms.new) }
+    ensures row { (names : List (List ℕ)) (vars : List Var) (ds : List Datum) → AreItems names forms.old items ds → IfOk result (λ r. IsRow names forms.new vars r (inner_definition span (definition_of_word span ds (Some word)))) }
+{
+    let formed = is_definition(forms, span, items, word)?;
+    if formed {
+        let row = bad(forms, SyntaxKind::NotTopLevel, span)?;
+        Ok(row)
+    } else {
+        malformed(forms, span)
+    }
 }

@@ -2,12 +2,29 @@
 //! form (`specs/Given.antt`).
 #![tactic(auto)]
 
+mod bindings;
+mod calls;
+mod case;
+mod cond;
 mod definitions;
+mod labels;
+mod lists;
+mod locative;
+mod loops;
+mod making;
+mod names;
+mod nodes;
+mod object;
 mod refusal;
 mod rows;
+mod set;
 mod table;
+mod templates;
+mod words;
 
-pub use crate::definitions::{Binder, Definition, defined_by, operator, twice};
+pub use crate::definitions::{Definition, definition_of};
+pub use crate::lists::{items_of, split};
+pub use crate::names::{Binder, twice};
 pub use crate::refusal::{Refusal, SyntaxKind};
 pub use crate::rows::{Part, Row, Shape};
 pub use crate::table::row;

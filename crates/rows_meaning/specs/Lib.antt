@@ -1,0 +1,9 @@
+pub mod Writing
+pub mod Answers
+pub mod BuiltinUnits
+pub mod CallUnits
+pub mod DefinitionUnits
+pub mod CatchUnits
+pub mod ObjectUnits
+pub mod CostUnits
+pub mod QueensUnit

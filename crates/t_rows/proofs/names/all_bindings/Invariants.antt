@@ -1,0 +1,11 @@
+use Rattle.std.proofs.Common.{ℕ, List, take}
+use Rattle.t_forms.specs.Data.{Datum}
+use Rattle.t_rows.specs.Lists.{AreHeld}
+use Rattle.t_rows.specs.Bindings.{IsBinding}
+use Rattle.t_rows.specs.Rows.{binding_of}
+use Rattle.t_rows.proofs.AllLemmas.{AllSoFar}
+use Rattle.t_rows.proofs.names.all_bindings.Given as goal
+
+abbrev pub invariant-keys : goal.invariant-keys
+invariant-keys l =
+    (names : List (List ℕ)) (ds : List Datum) → AreHeld names l.forms (take l.key-index l.keys) ds → AllSoFar (IsBinding names l.forms) binding_of l.bindings.items ds

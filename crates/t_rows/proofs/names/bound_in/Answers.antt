@@ -1,0 +1,27 @@
+use Rattle.std.proofs.Common.{◌<◌, length, get_or, take, add-one}
+use Rattle.std.proofs.Math.Seq.{take-suc}
+use Rattle.std.proofs.lemmas.List.{take_all}
+use Rattle.t_forms.specs.declared.scope.LocalName.TheVariants as key
+use Rattle.t_rows.specs.declared.names.Binding.{Binding as CodeBinding}
+use Rattle.t_rows.specs.Bindings.{IsBinder, IsBinding}
+use Rattle.t_rows.proofs.ZipLemmas.{collected, none_collected}
+use Rattle.t_rows.proofs.names.bound_in.Goals as goal
+
+no_binding : CodeBinding
+no_binding = record { name = record { at = record { start = 0; end = 0 }; name = key.Written (record { 0 = 0 }) }; value = 0; place = 0 }
+
+pub bindings-init : goal.bindings-init
+bindings-init c texts cells bs h = rw c.new-names.ensures.items (none_collected (IsBinding texts cells) (IsBinder texts) (λ b. b.binds) bs h)
+
+pub bindings-preserved : goal.bindings-preserved
+unfolding no_binding
+bindings-preserved c texts cells bs h =
+    let below : c.bindings.binding-index < length c.args.bindings.now = c.bindings-test.true in
+    rw c.in_ok-push.ensures.items
+    (collected (IsBinding texts cells) (IsBinder texts) (λ b. b.binds) (take c.bindings.binding-index c.args.bindings.now)
+    (get_or c.args.bindings.now c.bindings.binding-index no_binding) c.bindings.names.items _ (λ xs k. c.bindings.invariant texts cells xs k) (λ d k. k.0) bs
+    (rw (add-one, take-suc c.args.bindings.now c.bindings.binding-index no_binding below) at h))
+
+pub returns : goal.returns
+returns c texts cells bs h =
+    c.bindings.invariant texts cells bs (rw (take_all c.bindings.binding-index c.args.bindings.now c.bindings-test.false) h)
