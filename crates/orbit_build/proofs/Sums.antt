@@ -23,9 +23,9 @@ use Rattle.m68020_step.proofs.Executing.{IsAt, past}
 use Rattle.m68020_step.proofs.Rows.{move_from_storage, add_registers, branch_by, move_quick_to, trap_by}
 use Rattle.orbit_monitor.specs.declared.end.Exit.TheVariants as exit
 use Rattle.orbit_monitor.specs.Services.{Exits, serve, raise_fault}
-use Rattle.t_meaning.specs.Form.{is_fixnum}
-use Rattle.t_meaning.specs.Evaluation.{Outcome, Value, Faulted, Out}
-use Rattle.orbit_build.specs.Grammar.{most_open}
+use Rattle.t_prim.specs.Operands.{in_range}
+use Rattle.orbit_build.proofs.Evaluation.{Outcome, Value, Faulted}
+use Rattle.orbit_build.specs.Sums.{most_open}
 use Rattle.orbit_build.specs.Code.{word, slot, statics_bytes}
 use Rattle.orbit_build.proofs.Words.{sum_fits, sum_overflows, sum_word}
 use Rattle.orbit_build.proofs.Runs.{Passes, Finishes, with_registers, passes_one, passes_both, finishes_one, finishes_on}
@@ -47,14 +47,13 @@ pub record Gives (s : State) (depth : ℕ) (front rest : List ℕ) (k : ℕ) (v 
   pub passes : Passes s k state
   pub at : IsAt state front rest
   pub value : data_at state.registers 0 ≡ word v
-  pub fixnum : is_fixnum v ≡ true
+  pub fixnum : in_range v ≡ true
   pub kept : Kept depth s state
 
 -- what the code comes to within k instructions, by what the form does
 abbrev pub Ending : State → ℕ → List ℕ → List ℕ → ℕ → Outcome → Type 0
 Ending s depth front rest k (Value v) = Gives s depth front rest k v
 Ending s depth front rest k (Faulted fault) = Finishes s k (exit.Fault fault)
-Ending s depth front rest k Out = ⊥
 
 abbrev pub fetch : ℕ → Instr
 fetch depth = MoveL (Abs (slot depth)) (D 1)
@@ -74,7 +73,7 @@ raise = Trap 3
 fetch_is_row : (depth : ℕ) → depth < most_open → is_row (fetch depth) ≡ true
 fetch_is_row depth lt = rw (lt-ltb (slot depth) (2 ^ 32) (omega arith)) refl
 
-module _ (s : State) (front rest : List ℕ) (depth : ℕ) (x y : ℤ) (fx : is_fixnum x ≡ true) (fy : is_fixnum y ≡ true) (fit : Fit s) (low : depth < most_open)
+module _ (s : State) (front rest : List ℕ) (depth : ℕ) (x y : ℤ) (fx : in_range x ≡ true) (fy : in_range y ≡ true) (fit : Fit s) (low : depth < most_open)
     (at : IsAt s front (spelling (fetch depth) ++ (spelling add ++ (spelling branch_over ++ (spelling load_seven ++ (spelling raise ++ rest))))))
     (d0 : data_at s.registers 0 ≡ word y) (saved : long_at s.storage (slot depth) ≡ Some (word x)) where
   -- D1 is x
@@ -147,7 +146,7 @@ module _ (s : State) (front rest : List ℕ) (depth : ℕ) (x y : ℤ) (fx : is_
   at_over : IsAt (with_registers s2 over) (((((front ++ spelling (fetch depth)) ++ spelling add) ++ spelling branch_over) ++ spelling load_seven) ++ spelling raise) rest
   at_over = past passed_seven (with_registers s2 over) _ raise _ (past (with_registers s2 behind) passed_seven _ load_seven _ at3 refl refl) refl (omega (arith, at2.pc, at2.small, high))
 
-  pub sum_given : is_fixnum (x +ℤ y) ≡ true → Gives s depth (((((front ++ spelling (fetch depth)) ++ spelling add) ++ spelling branch_over) ++ spelling load_seven) ++ spelling raise) rest 3 (x +ℤ y)
+  pub sum_given : in_range (x +ℤ y) ≡ true → Gives s depth (((((front ++ spelling (fetch depth)) ++ spelling add) ++ spelling branch_over) ++ spelling load_seven) ++ spelling raise) rest 3 (x +ℤ y)
   sum_given f =
       let fits : r2.flags.v ≡ false = flag_is ∙ sum_fits x y fx fy f in
       let go3 : Passes s2 1 (with_registers s2 over) = passes_one s2 _ branch_over _ over refl at2 (branched false fits) refl in
@@ -170,7 +169,7 @@ module _ (s : State) (front rest : List ℕ) (depth : ℕ) (x y : ℤ) (fx : is_
   abbrev s4 : State
   s4 = with_registers s3 r4
 
-  pub sum_faulted : is_fixnum (x +ℤ y) ≡ false → Finishes s 5 (exit.Fault FixnumOverflow)
+  pub sum_faulted : in_range (x +ℤ y) ≡ false → Finishes s 5 (exit.Fault FixnumOverflow)
   sum_faulted f =
       let spills : r2.flags.v ≡ true = flag_is ∙ sum_overflows x y fx fy f in
       let go3 : Passes s2 1 s3 = passes_one s2 _ branch_over _ behind refl at2 (branched true spills) refl in

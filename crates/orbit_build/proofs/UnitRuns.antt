@@ -28,27 +28,26 @@ use Rattle.orbit_monitor.specs.Run.{start_of, run_from, run, booted}
 use Rattle.orbit_monitor.specs.Run as monitor
 use Rattle.orbit_monitor.specs.Observed.{shown_of, end_of, observation_of, observed}
 use Rattle.orbit_monitor.proofs.Runs.{run-stays_by, observed-grows}
-use Rattle.t_meaning.specs.Form.{Form}
-use Rattle.t_meaning.specs.Evaluation.{Outcome, Value, Faulted, Out, Counters, Evaluation}
-use Rattle.t_meaning.specs.Meaning.{Progress, counted, continued, fresh, meaning}
-use Rattle.t_meaning.specs.Meaning as unit_meaning
-use Rattle.t_meaning.proofs.Whole.{whole, whole_run, top, meaning_whole}
-use Rattle.t_meaning.proofs.More.{more_bound_keeps}
-use Rattle.orbit_build.specs.Grammar.{most_open}
-use Rattle.orbit_build.specs.Code.{empty_list, form_code, forms_code, unit_code, statics_bytes, image_of}
+use Rattle.t_core.specs.declared.forms.UnitCore.{UnitCore}
+use Rattle.t_meaning.specs.Programs.{Marking, all_escape}
+use Rattle.t_meaning.specs.Units.{meaning}
+use Rattle.t_meaning.proofs.BoundTasks.{meaning_is_steady}
+use Rattle.orbit_build.specs.Sums.{most_open, Term, HasFixnums, AreTerms}
+use Rattle.orbit_build.proofs.Evaluation.{Outcome, Value, Faulted, Counters, Evaluation, whole, Progress, reached, counted, continued, whole_run, top, fresh}
+use Rattle.orbit_build.proofs.Meanings.{seen, meaning_whole}
+use Rattle.orbit_build.specs.Code.{empty_list, term_code, terms_code, unit_code, statics_bytes, image_of}
 use Rattle.orbit_build.specs.Faithful.{factor, frame_words, KeepsMeaning}
-use Rattle.orbit_build.proofs.Parts.{none_some}
 use Rattle.orbit_build.proofs.Words.{face_word}
 use Rattle.orbit_build.proofs.Runs.{Finishes, with_registers, finishes_one, finishes_on}
 use Rattle.orbit_build.proofs.Sums.{Fit, Ending}
-use Rattle.orbit_build.proofs.FormRuns.{HasFixnums, nesting, fit_kept, Comes, loads, form_comes}
+use Rattle.orbit_build.proofs.TermRuns.{nesting, fit_kept, Comes, loads, term_comes}
 
--- ---- forms
+-- ---- terms
 
--- forms whose literals are fixnums, with few sums open at once
-abbrev pub AreSmall : List Form → Type 0
+-- terms whose literals are fixnums, with few sums open at once
+abbrev pub AreSmall : List Term → Type 0
 AreSmall [] = Unit {0}
-AreSmall (f ∷ fs) = (HasFixnums f × (nesting f ≤ most_open)) × AreSmall fs
+AreSmall (t ∷ ts) = (HasFixnums t × (nesting t ≤ most_open)) × AreSmall ts
 
 -- the word is shown so
 record Shows (w : ℕ) (last : Shown) : Type 0 where
@@ -62,11 +61,11 @@ record UnitComes (s : State) (before more : ℕ) (p : Progress) : Type 0 where
   few : count + 6 * before ≤ 6 * p.counters.work + more
   how : Exit
   finishes : Finishes s count how
-  end_is : p.end ≡ Some (end_of [] how)
+  end_is : p.end ≡ end_of [] how
   proper : IsProper (end_of [] how)
 
 -- the end with what is in D0
-halts : (s : State) (front : List ℕ) (c : Counters) (last : Shown) → IsAt s front (spelling (Trap 0)) → Shows (data_at s.registers 0) last → UnitComes s c.work 1 (unit_meaning.reached c (Some (runs.Value last)))
+halts : (s : State) (front : List ℕ) (c : Counters) (last : Shown) → IsAt s front (spelling (Trap 0)) → Shows (data_at s.registers 0) last → UnitComes s c.work 1 (reached c (runs.Value last))
 halts s front c last at shows =
     let r : Registers = with_pc s.registers (s.registers.pc + length (spelling (Trap 0))) in
     let service : serve [] (with_registers s r) 0 ≡ Exits (exit.Done shows.it) = ap (or_bad (λ (f : Face). Exits (exit.Done f))) (shows.face_is s.storage) in
@@ -76,14 +75,14 @@ halts s front c last at shows =
       few = omega arith;
       how = exit.Done shows.it;
       finishes = finishes_one s front (Trap 0) [] r 0 (exit.Done shows.it) refl here (trap_by s.storage s.registers.pc _ 0) refl service;
-      end_is = ap (λ (x : Shown). Some (runs.Value x)) (sym shows.shown);
+      end_is = ap (λ (x : Shown). runs.Value x) (sym shows.shown);
       proper = tt;
     }
 
-first_form : (s : State) (front rest : List ℕ) (c : Counters) (r : Evaluation) (more : Counters → Shown → Progress) → Fit s → Comes s 0 front rest (c.work + 1) r
+first_term : (s : State) (front rest : List ℕ) (c : Counters) (r : Evaluation) (more : Counters → Shown → Progress) → Fit s → Comes s 0 front rest (c.work + 1) r
     → ((t : State) (shown : Shown) → Fit t → IsAt t front rest → Shows (data_at t.registers 0) shown → UnitComes t r.counters.work 1 (more r.counters shown))
     → UnitComes s c.work 1 (continued r.counters r.outcome more)
-first_form s front rest c r more fit comes next = by_outcome r.outcome comes.count comes.few comes.ending
+first_term s front rest c r more fit comes next = by_outcome r.outcome comes.count comes.few comes.ending
   where
     by_outcome : (o : Outcome) (k : ℕ) → k + 6 * (c.work + 1) ≤ 6 * r.counters.work → Ending s 0 front rest k o → UnitComes s c.work 1 (continued r.counters o more)
     by_outcome (Value v) k few e =
@@ -91,54 +90,56 @@ first_form s front rest c r more fit comes next = by_outcome r.outcome comes.cou
         let u = next e.state (Fixnum v) (fit_kept 0 s e.state fit e.kept) e.at shows in
         record { count = k + u.count; few = omega (arith, few, u.few); how = u.how; finishes = finishes_on s e.state k u.count u.how e.passes u.finishes; end_is = u.end_is; proper = u.proper }
     by_outcome (Faulted fault) k few e = record { count = k; few = omega (arith, few); how = exit.Fault fault; finishes = e; end_is = refl; proper = tt }
-    by_outcome Out k few e = absurd e
 
-forms_come : (fs : List Form) (c : Counters) (last : Shown) (s : State) (front : List ℕ) → AreSmall fs → Fit s → IsAt s front (forms_code fs ++ spelling (Trap 0)) → Shows (data_at s.registers 0) last → UnitComes s c.work 1 (whole_run fs c last)
+terms_come : (ts : List Term) (c : Counters) (last : Shown) (s : State) (front : List ℕ) → AreSmall ts → Fit s → IsAt s front (terms_code ts ++ spelling (Trap 0)) → Shows (data_at s.registers 0) last → UnitComes s c.work 1 (whole_run ts c last)
 unfolding whole_run
-forms_come [] c last s front h fit at shows = halts s front c last at shows
-forms_come (f ∷ fs) c last s front h fit at shows =
-    let here = subst (λ l. IsAt s front l) (append_assoc (form_code 0 f) (forms_code fs) (spelling (Trap 0))) at in
-    first_form s (front ++ form_code 0 f) (forms_code fs ++ spelling (Trap 0)) c (whole 1 f (counted c)) (λ t shown. whole_run fs t shown) fit
-    (form_comes f 0 1 (counted c) s front _ h.0.0 (omega (arith, h.0.1)) fit here)
-    (λ t shown fit2 at2 shows2. forms_come fs (whole 1 f (counted c)).counters shown t _ h.1 fit2 at2 shows2)
+terms_come [] c last s front h fit at shows = halts s front c last at shows
+terms_come (f ∷ fs) c last s front h fit at shows =
+    let here = subst (λ l. IsAt s front l) (append_assoc (term_code 0 f) (terms_code fs) (spelling (Trap 0))) at in
+    first_term s (front ++ term_code 0 f) (terms_code fs ++ spelling (Trap 0)) c (whole 1 f (counted c)) (λ t shown. whole_run fs t shown) fit
+    (term_comes f 0 1 (counted c) s front _ h.0.0 (omega (arith, h.0.1)) fit here)
+    (λ t shown fit2 at2 shows2. terms_come fs (whole 1 f (counted c)).counters shown t _ h.1 fit2 at2 shows2)
 
 -- ---- from boot on
 
-boot_fits : (unit : List Form) (sizes : Sizes) → Fit (booted (image_of unit) sizes)
-boot_fits unit sizes = record { registers = refl; statics = length-replicate {A = ℕ} statics_bytes 0 }
+boot_fits : (ts : List Term) (sizes : Sizes) → Fit (booted (image_of ts) sizes)
+boot_fits ts sizes = record { registers = refl; statics = length-replicate {A = ℕ} statics_bytes 0 }
 
-boot_is_at : (unit : List Form) (sizes : Sizes) → length (unit_code unit) ≤ 2 ^ 28 → IsAt (booted (image_of unit) sizes) [] (unit_code unit)
-boot_is_at unit sizes small = record { code = refl; pc = omega arith; even = refl; small = small }
+boot_is_at : (ts : List Term) (sizes : Sizes) → length (unit_code ts) ≤ 2 ^ 28 → IsAt (booted (image_of ts) sizes) [] (unit_code ts)
+boot_is_at ts sizes small = record { code = refl; pc = omega arith; even = refl; small = small }
 
-unit_comes : (unit : List Form) (sizes : Sizes) → AreSmall unit → length (unit_code unit) ≤ 2 ^ 28 → UnitComes (booted (image_of unit) sizes) 0 2 (whole_run unit fresh EmptyList)
-unit_comes unit sizes h small =
-    let s = booted (image_of unit) sizes in
-    let l = loads s [] (forms_code unit ++ spelling (Trap 0)) empty_list (omega arith) (boot_fits unit sizes) (boot_is_at unit sizes small) in
+unit_comes : (ts : List Term) (sizes : Sizes) → AreSmall ts → length (unit_code ts) ≤ 2 ^ 28 → UnitComes (booted (image_of ts) sizes) 0 2 (whole_run ts fresh EmptyList)
+unit_comes ts sizes h small =
+    let s = booted (image_of ts) sizes in
+    let l = loads s [] (terms_code ts ++ spelling (Trap 0)) empty_list (omega arith) (boot_fits ts sizes) (boot_is_at ts sizes small) in
     let shows : Shows (data_at l.state.registers 0) EmptyList = record { it = face.Nil; face_is = λ m. ap (face_of m []) l.value; shown = refl } in
-    let u = forms_come unit fresh EmptyList l.state _ h (fit_kept 0 s l.state (boot_fits unit sizes) (l.kept 0)) l.at shows in
+    let u = terms_come ts fresh EmptyList l.state _ h (fit_kept 0 s l.state (boot_fits ts sizes) (l.kept 0)) l.at shows in
     record { count = 1 + u.count; few = omega (arith, u.few); how = u.how; finishes = finishes_on s l.state 1 u.count u.how l.passes u.finishes; end_is = u.end_is; proper = u.proper }
 
 -- ---- what is seen of it
+
+none_some : {A : Type 0} (x : A) → None ≡ Some x → ⊥
+none_some x e = cc
 
 prefix_of_nothing : (p : List ℕ) → IsPrefix p [] → p ≡ []
 prefix_of_nothing [] h = refl
 prefix_of_nothing (b ∷ bs) h = cc
 
-module _ (unit : List Form) (sizes : Sizes) (h : AreSmall unit) (small : length (unit_code unit) ≤ 2 ^ 28) where
-  comes : UnitComes (booted (image_of unit) sizes) 0 2 (whole_run unit fresh EmptyList)
-  comes = unit_comes unit sizes h small
+module _ (unit : UnitCore) (escapes : Marking) (ts : List Term) (are : AreTerms unit.forms.items ts) (sizes : Sizes) (h : AreSmall ts) (small : length (unit_code ts) ≤ 2 ^ 28) where
+  comes : UnitComes (booted (image_of ts) sizes) 0 2 (whole_run ts fresh EmptyList)
+  comes = unit_comes ts sizes h small
 
   abbrev b : ℕ → Observation
-  b k = observed (image_of unit) sizes k
+  b k = observed (image_of ts) sizes k
 
-  at_end : run (image_of unit) sizes comes.count ≡ record { state = comes.finishes.state; output = []; end = Some comes.how; instructions = comes.count }
+  at_end : run (image_of ts) sizes comes.count ≡ record { state = comes.finishes.state; output = []; end = Some comes.how; instructions = comes.count }
   at_end = comes.finishes.by
 
   -- where it has ended, it is as at the end
-  end_of_run : (k : ℕ) (how : Exit) → (run (image_of unit) sizes k).end ≡ Some how → b k ≡ b comes.count
+  end_of_run : (k : ℕ) (how : Exit) → (run (image_of ts) sizes k).end ≡ Some how → b k ≡ b comes.count
   end_of_run k how e = ap (observation_of [] sizes) (⊎_elim
-      (λ lt. sym (run-stays_by (image_of unit) sizes k comes.count how e (omega arith)))
-      (λ ge. run-stays_by (image_of unit) sizes comes.count k comes.how (ap (λ (p : monitor.Progress). p.end) at_end) ge)
+      (λ lt. sym (run-stays_by (image_of ts) sizes k comes.count how e (omega arith)))
+      (λ ge. run-stays_by (image_of ts) sizes comes.count k comes.how (ap (λ (p : monitor.Progress). p.end) at_end) ge)
       (cases_lt k comes.count))
 
   seen_end : (b comes.count).end ≡ Some (end_of [] comes.how)
@@ -152,66 +153,75 @@ module _ (unit : List Form) (sizes : Sizes) (h : AreSmall unit) (small : length 
     output : (b k).output ≡ []
     heap : (b k).heap ≡ 0
 
-  words_of : (a : List ℕ) → a ≡ (booted (image_of unit) sizes).registers.a → (slice_index a 4 - HEAP_START) / 4 ≡ 0
+  words_of : (a : List ℕ) → a ≡ (booted (image_of ts) sizes).registers.a → (slice_index a 4 - HEAP_START) / 4 ≡ 0
   words_of a e = ap (λ (l : List ℕ). (slice_index l 4 - HEAP_START) / 4) e
 
   quiet_to : (k : ℕ) → k ≤ comes.count → Quiet k
   quiet_to k le =
       let same : k + (comes.count - k) ≡ comes.count = omega arith in
-      let grows : IsPrefix (b k).output (b comes.count).output = subst (λ n. IsPrefix (b k).output (b n).output) same (observed-grows (image_of unit) sizes k (comes.count - k)) in
+      let grows : IsPrefix (b k).output (b comes.count).output = subst (λ n. IsPrefix (b k).output (b n).output) same (observed-grows (image_of ts) sizes k (comes.count - k)) in
       record {
         output = prefix_of_nothing (b k).output (subst (λ l. IsPrefix (b k).output l) seen_output grows);
-        heap = words_of (run (image_of unit) sizes k).state.registers.a (comes.finishes.still k le);
+        heap = words_of (run (image_of ts) sizes k).state.registers.a (comes.finishes.still k le);
       }
 
   quiet : (k : ℕ) → Quiet k
   quiet k = ⊎_elim
       (λ lt. quiet_to k (omega arith))
       (λ ge.
-      let e = ap (observation_of [] sizes) (run-stays_by (image_of unit) sizes comes.count k comes.how (ap (λ (p : monitor.Progress). p.end) at_end) ge) in
+      let e = ap (observation_of [] sizes) (run-stays_by (image_of ts) sizes comes.count k comes.how (ap (λ (p : monitor.Progress). p.end) at_end) ge) in
       let q = quiet_to comes.count (omega arith) in
       let x : Quiet k = record { output = ap (λ (o : Observation). o.output) e ∙ q.output; heap = ap (λ (o : Observation). o.heap) e ∙ q.heap } in x)
       (cases_lt k comes.count)
 
-  -- the end of the unit
-  meant_end : (meaning unit (top unit)).end ≡ Some (end_of [] comes.how)
-  meant_end = ap (λ (o : Observation). o.end) (meaning_whole unit) ∙ comes.end_is
+  whole_meaning : meaning unit escapes (top ts) ≡ seen (whole_run ts fresh EmptyList)
+  whole_meaning = meaning_whole unit escapes ts (top ts) are (omega arith)
 
-  meant : (m : ℕ) (e : End) → (meaning unit m).end ≡ Some e → meaning unit m ≡ meaning unit (top unit)
-  meant m e q = one_end (meaning unit) (more_bound_keeps unit) (top unit) m (end_of [] comes.how) e meant_end q
+  -- nothing is put at any bound
+  silent : (m : ℕ) → (meaning unit escapes m).output ≡ []
+  silent m =
+      let later = ap (λ (o : Observation). o.output) (meaning_whole unit escapes ts (m + top ts) are (omega arith)) in
+      prefix_of_nothing _ (subst (λ l. IsPrefix (meaning unit escapes m).output l) later (meaning_is_steady unit escapes m (top ts)).output)
+
+  -- the end of the unit
+  meant_end : (meaning unit escapes (top ts)).end ≡ Some (end_of [] comes.how)
+  meant_end = ap (λ (o : Observation). o.end) whole_meaning ∙ ap (λ (e : End). Some e) comes.end_is
+
+  meant : (m : ℕ) (e : End) → (meaning unit escapes m).end ≡ Some e → meaning unit escapes m ≡ meaning unit escapes (top ts)
+  meant m e q = one_end (meaning unit escapes) (meaning_is_steady unit escapes) (top ts) m (end_of [] comes.how) e meant_end q
 
   record Exited (k : ℕ) (e : End) : Type 0 where
     how : Exit
-    ended : (run (image_of unit) sizes k).end ≡ Some how
+    ended : (run (image_of ts) sizes k).end ≡ Some how
 
   exited : (k : ℕ) (e : End) → (b k).end ≡ Some e → Exited k e
-  exited k e q = by_end (run (image_of unit) sizes k).end refl
+  exited k e q = by_end (run (image_of ts) sizes k).end refl
     where
-      by_end : (o : Option Exit) → (run (image_of unit) sizes k).end ≡ o → Exited k e
+      by_end : (o : Option Exit) → (run (image_of ts) sizes k).end ≡ o → Exited k e
       by_end (Some how) x = record { how = how; ended = x }
       by_end None x = absurd (none_some e (sym (ap (option_map (end_of [])) x) ∙ q))
 
   same_of : (e d : End) → Some e ≡ Some d → e ≡ d
   same_of e d q = cc
 
-  pub keeps_within : (frame : ℕ) → KeepsWithin frame factor (meaning unit) (observed (image_of unit) sizes)
+  pub keeps_within : (frame : ℕ) → KeepsWithin frame factor (meaning unit escapes) (observed (image_of ts) sizes)
   keeps_within frame = record {
     ends_only = λ k e q.
         let x = exited k e q in
         let same = end_of_run k x.how x.ended in
         let is : end_of [] comes.how ≡ e = same_of _ _ (sym seen_end ∙ sym (ap (λ (o : Observation). o.end) same) ∙ q) in
-        inl (subst IsProper is comes.proper, (top unit, record { ended = meant_end ∙ ap (λ (d : End). Some d) is; output = sym (quiet k).output }));
+        inl (subst IsProper is comes.proper, (top ts, record { ended = meant_end ∙ ap (λ (d : End). Some d) is; output = silent (top ts) ∙ sym (quiet k).output }));
     ends = λ m e q.
         let same = meant m e q in
         let is : Some (end_of [] comes.how) ≡ Some e = sym meant_end ∙ sym (ap (λ (o : Observation). o.end) same) ∙ q in
-        let work : (meaning unit m).moves ≡ (whole_run unit fresh EmptyList).counters.work = ap (λ (o : Observation). o.moves) (same ∙ meaning_whole unit) in
+        let work : (meaning unit escapes m).moves ≡ (whole_run ts fresh EmptyList).counters.work = ap (λ (o : Observation). o.moves) (same ∙ whole_meaning) in
         let moves : (b comes.count).moves ≡ comes.count = ap (λ (p : monitor.Progress). p.instructions) at_end in
-        (comes.count, inl (seen_end ∙ is, seen_output), omega (arith, work, moves, comes.few));
-    shows = λ m. (0, inl ([], refl), omega arith);
-    shows_only = λ k. (0, prefix_of_eq (b k).output [] (quiet k).output);
+        (comes.count, inl (seen_end ∙ is, seen_output ∙ sym (silent m)), omega (arith, work, moves, comes.few));
+    shows = λ m. (0, inl (prefix_of_eq _ _ (silent m ∙ sym (quiet 0).output)), omega arith);
+    shows_only = λ k. (0, prefix_of_eq _ _ ((quiet k).output ∙ sym (silent 0)));
     heap = λ k. (0, let q = (quiet k).heap in omega (arith, q));
     waiting = λ k. (0, omega arith);
   }
 
-pub keeps_meaning : (unit : List Form) → AreSmall unit → length (unit_code unit) ≤ 2 ^ 28 → KeepsMeaning unit (image_of unit)
-keeps_meaning unit h small sizes heap stack = keeps_within unit sizes h small (frame_words unit)
+pub keeps_meaning : (unit : UnitCore) (ts : List Term) → AreTerms unit.forms.items ts → AreSmall ts → length (unit_code ts) ≤ 2 ^ 28 → KeepsMeaning unit (image_of ts)
+keeps_meaning unit ts are h small sizes heap stack = keeps_within unit all_escape ts are sizes h small (frame_words unit)

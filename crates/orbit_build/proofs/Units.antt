@@ -1,116 +1,180 @@
--- The forms of a unit, one after the other.
-use Rattle.std.proofs.Common.{◌≡◌, ℕ, ◌≤◌, List, [], ◌∷◌, ◌++◌, Some, None, refl, sym, ap, ◌∙◌, subst, arith, append_assoc, append-nil}
-use Rattle.t_reader.specs.declared.unit.Node.{Node}
-use Rattle.t_reader.specs.Grammar.{Tree}
-use Rattle.t_reader.specs.Unit.{Holds, HoldTrees, nest}
-use Rattle.m68020_code.specs.declared.instr.Instr.TheVariants.{Trap}
-use Rattle.m68020_code.specs.Table.{spelling}
-use Rattle.t_meaning.specs.Form.{Form}
-use Rattle.orbit_build.specs.Code.{load, empty_list, form_code, forms_code}
-use Rattle.orbit_build.specs.Grammar.{IsSmallForm, AreForms}
-use Rattle.orbit_build.proofs.Parts.{none_some}
-use Rattle.orbit_build.specs.Reading.{Parted, parted, first_of, AreShallow, BuiltAs, AllBuilt, UnitBuilt}
+-- A whole unit that is built and within the limits is made of terms.
+use Rattle.std.proofs.Common.{◌≡◌, ℕ, zero, suc, ◌+◌, ◌*◌, ◌<◌, ◌≤◌, Bool, true, false, List, [], ◌∷◌, length, Option, Some, None, refl, subst, arith, le_trans, sum_by}
+use Rattle.std.specs.Prelude.{nat_lt, Result, Ok, Err, if◌then◌else◌, ◌&&◌}
+use Rattle.std.specs.List.{list_all, AllByRecursion}
+use Rattle.std.specs.Option.{option_map_or}
+use Rattle.std.proofs.Math.Nat.{le-mul_of_pos_right}
+use Rattle.std.proofs.lemmas.Bool.{ltb-false}
+use Rattle.std.proofs.lemmas.List.Sums.{sum_by-cons}
+use Rattle.std.proofs.lemmas.List.Elements.{recursion_from_All}
+use Rattle.t_base.specs.declared.shared_parts.Const.{Const}
+use Rattle.t_base.specs.declared.shared_parts.Shared.{Shared}
+use Rattle.t_core.specs.declared.forms.Core.{Core}
+use Rattle.t_core.specs.declared.forms.Core.TheVariants as Node
+use Rattle.t_core.specs.declared.forms.FormKind.{FormKind}
+use Rattle.t_core.specs.declared.forms.FormKind.TheVariants as kinds
+use Rattle.t_core.specs.declared.forms.Form.{Form}
+use Rattle.t_core.specs.declared.forms.UnitCore.{UnitCore}
+use Rattle.t_core.specs.declared.limiting.LimitFault.{LimitFault}
+use Rattle.t_core.specs.declared.limiting.LimitFault.TheVariants as limit
+use Rattle.t_core.specs.Counts.{Pairs, parts, nodes_within, datum_nodes, node_count, form_count, form_weight, weight_of}
+use Rattle.t_core.specs.Limits.{first_over, params_limit, weight_limit, limit_of}
+use Rattle.t_core.specs.Whole.{HasPlaces, HasShapes, IsDefinition, IsWhole}
+use Rattle.orbit_build.specs.Sums.{most_open, is_plain, is_built_node, is_built_form, is_built, Term, IsTermForm, AreTerms}
+use Rattle.orbit_build.proofs.TermRuns.{nesting}
+use Rattle.orbit_build.proofs.UnitRuns.{AreSmall}
+use Rattle.orbit_build.proofs.Trees.{stands}
+use Rattle.orbit_build.proofs.Sizes.{term_nodes, term_few}
 
-some_parted : (p q : Parted) → Some p ≡ Some q → p ≡ q
-some_parted p q e = cc
+-- ---- within the limits
 
-module _ (names : List (List ℕ)) (nodes : List Node) where
-  -- What is left of the data stands at these places; what its code comes to is what the code of all comes to.
-  pub record Goes (ts : List Tree) (keys old now : List ℕ) : Type 0 where
-    pub left_ : List Tree
-    pub held : HoldTrees names nodes keys left_
-    pub built : (final : List ℕ) → AllBuilt left_ now final → AllBuilt ts old final
-    pub forms : (fs : List Form) → AreForms ts fs → (gs : List Form) × AreForms left_ gs
-    pub shallow : AreShallow ts → AreShallow left_
+err_ok : (f : LimitFault) → ◌≡◌ {A = Result (Unit {0}) LimitFault} (Err f) (Ok tt) → ⊥
+err_ok f e = cc
 
-  pub starts : (ts : List Tree) (keys old : List ℕ) → HoldTrees names nodes keys ts → Goes ts keys old old
-  starts ts keys old h = record { left_ = ts; held = h; built = λ final b. b; forms = λ fs a. (fs, a); shallow = λ s. s }
+-- no form is over, and what is said then holds
+record Under (count : Form → ℕ) (most : ℕ) (forms : List Form) (otherwise : Result (Unit {0}) LimitFault) : Type 0 where
+  all : AllByRecursion (λ form. count form ≤ most) forms
+  rest : otherwise ≡ Ok tt
 
-  -- the first datum that is left, and the others
-  record First (key : ℕ) (keys : List ℕ) (ts : List Tree) : Type 0 where
-    it : Tree
-    others : List Tree
-    held : Holds names nodes key it
-    others_held : HoldTrees names nodes keys others
-    are : ts ≡ it ∷ others
+none_over : (count : Form → ℕ) (most : ℕ) (fault : ℕ → ℕ → LimitFault) (otherwise : Result (Unit {0}) LimitFault) (at : ℕ) (forms : List Form) → first_over count most fault otherwise at forms ≡ Ok tt → Under count most forms otherwise
+none_over count most fault otherwise at [] e = record { all = tt; rest = e }
+none_over count most fault otherwise at (form ∷ forms) e = by_test (nat_lt most (count form)) refl e (λ r. none_over count most fault otherwise (at + 1) forms r)
+  where
+    by_test : (b : Bool) → nat_lt most (count form) ≡ b → (if b then Err (fault at (count form)) else first_over count most fault otherwise (at + 1) forms) ≡ Ok tt
+        → (first_over count most fault otherwise (at + 1) forms ≡ Ok tt → Under count most forms otherwise) → Under count most (form ∷ forms) otherwise
+    by_test true b e rest = absurd (err_ok _ e)
+    by_test false b e rest = let r = rest e in record { all = (ltb-false most (count form) b, r.all); rest = r.rest }
 
-  no_keys : (key : ℕ) (keys : List ℕ) → key ∷ keys ≡ [] → ⊥
-  no_keys key keys e = cc
+not_heavy : (unit : UnitCore) → weight_limit unit ≡ Ok tt → weight_of unit ≤ 4194304
+not_heavy unit e = by_test (nat_lt 4194304 (weight_of unit)) refl e
+  where
+    by_test : (b : Bool) → nat_lt 4194304 (weight_of unit) ≡ b → (if b then Err (limit.UnitWeight (weight_of unit)) else params_limit unit) ≡ Ok tt → weight_of unit ≤ 4194304
+    by_test true b e = absurd (err_ok _ e)
+    by_test false b e = ltb-false 4194304 (weight_of unit) b
 
-  same_head : (k j : ℕ) (ks js : List ℕ) → k ∷ ks ≡ j ∷ js → j ≡ k
-  same_head k j ks js e = cc
+-- ---- each node counts
 
-  same_tail : (k j : ℕ) (ks js : List ℕ) → k ∷ ks ≡ j ∷ js → js ≡ ks
-  same_tail k j ks js e = cc
+datum_some : (pairs : Pairs) (c : Const) → 1 ≤ datum_nodes pairs c
+unfolding datum_nodes nodes_within
+datum_some pairs c = by_depth (length pairs)
+  where
+    by_depth : (depth : ℕ) → 1 ≤ nodes_within pairs depth c
+    by_depth zero = omega arith
+    by_depth (suc depth) = by_parts (parts pairs c)
+      where
+        by_parts : (o : Option (Const × Const)) → 1 ≤ option_map_or (λ p. 1 + nodes_within pairs depth p.0 + nodes_within pairs depth p.1) o 1
+        by_parts None = omega arith
+        by_parts (Some p) = omega arith
 
-  first_held : (key : ℕ) (keys : List ℕ) (ts : List Tree) → HoldTrees names nodes (key ∷ keys) ts → First key keys ts
-  first_held key keys [] h = absurd (no_keys key keys h)
-  first_held key keys (t ∷ ts) h = record {
-    it = t;
-    others = ts;
-    held = subst (λ (k : ℕ). Holds names nodes k t) (same_head key h.0 keys h.1 h.2) h.3;
-    others_held = subst (λ (l : List ℕ). HoldTrees names nodes l ts) (same_tail key h.0 keys h.1 h.2) h.4;
-    are = refl;
-  }
+node_some : (pairs : Pairs) (node : Core) → 1 ≤ node_count pairs node
+node_some pairs (Node.Const c) = datum_some pairs c
+node_some pairs (Node.Local v) = omega arith
+node_some pairs (Node.Global g) = omega arith
+node_some pairs (Node.Builtin p) = omega arith
+node_some pairs (Node.Op o) = omega arith
+node_some pairs (Node.Lambda params body) = omega arith
+node_some pairs (Node.If test a b) = omega arith
+node_some pairs (Node.Block items) = omega arith
+node_some pairs (Node.Let vars values body) = omega arith
+node_some pairs (Node.Labels vars lambdas body) = omega arith
+node_some pairs (Node.SetLocal v value) = omega arith
+node_some pairs (Node.SetGlobal g value) = omega arith
+node_some pairs (Node.Catch v body) = omega arith
+node_some pairs (Node.Object proc methods) = omega arith
+node_some pairs (Node.Call operator operands last) = omega arith
+node_some pairs (Node.Prim p operands) = omega arith
 
-  forms_left : (t : Tree) (ts : List Tree) (fs : List Form) → AreForms (t ∷ ts) fs → (gs : List Form) × AreForms ts gs
-  forms_left t ts [] h = absurd h
-  forms_left t ts (f ∷ fs) h = (fs, h.1)
+nodes_few : (pairs : Pairs) (nodes : List Core) → length nodes ≤ sum_by (node_count pairs) nodes
+nodes_few pairs [] = omega arith
+nodes_few pairs (node ∷ nodes) = let one = node_some pairs node in let rest = nodes_few pairs nodes in let all = sum_by-cons (node_count pairs) node nodes in omega (arith, one, rest, all)
 
-  form_first : (t : Tree) (ts : List Tree) (fs : List Form) → AreForms (t ∷ ts) fs → (f : Form) × IsSmallForm t f
-  form_first t ts [] h = absurd h
-  form_first t ts (f ∷ fs) h = (f, h.0)
+-- ---- a form
 
-  one_more : (t : Tree) (ts : List Tree) (n : ℕ) (old mid final : List ℕ) → BuiltAs t 0 n old mid → n ≤ 2000 → AllBuilt ts mid final → AllBuilt (t ∷ ts) old final
-  one_more t ts n old mid final b few a = record {
-    unit = b.form ∷ a.unit;
-    are = ((b.is_form, omega (arith, few, b.nodes_are)), a.are);
-    code = a.code ∙ ap (λ (l : List ℕ). l ++ forms_code a.unit) b.code ∙ append_assoc old (form_code 0 b.form) (forms_code a.unit);
-  }
+false_true : false ≡ true → ⊥
+false_true e = cc
 
-  pub goes_on : (ts : List Tree) (key : ℕ) (keys : List ℕ) (n : ℕ) (old now next : List ℕ) → Goes ts (key ∷ keys) old now → ((t : Tree) → Holds names nodes key t → BuiltAs t 0 n now next) → n ≤ 2000 → Goes ts keys old next
-  goes_on ts key keys n old now next g b few =
-      let f = first_held key keys g.left_ g.held in
-      record {
-        left_ = f.others;
-        held = f.others_held;
-        built = λ final a. g.built final (subst (λ (l : List Tree). AllBuilt l now final) (sym f.are) (one_more f.it f.others n now next final (b f.it f.held) few a));
-        forms = λ fs a. let x = g.forms fs a in forms_left f.it f.others x.0 (subst (λ (l : List Tree). AreForms l x.0) f.are x.1);
-        shallow = λ s. (subst AreShallow f.are (g.shallow s)).1;
-      }
+plain_only : (k : FormKind) → is_plain k ≡ true → k ≡ kinds.Plain
+plain_only (kinds.Define g) e = absurd (false_true e)
+plain_only (kinds.Lset g) e = absurd (false_true e)
+plain_only (kinds.Operation o) e = absurd (false_true e)
+plain_only kinds.Plain e = refl
 
-  pub ends : (ts : List Tree) (old now : List ℕ) → Goes ts [] old now → AllBuilt ts old now
-  ends ts old now g = g.built now (nothing g.left_ g.held)
-    where
-      nothing : (l : List Tree) → HoldTrees names nodes [] l → AllBuilt l now now
-      nothing [] h = record { unit = []; are = tt; code = sym (append-nil now) }
-      nothing (t ∷ l) h = absurd (no_keys h.0 h.1 (sym h.2))
+both_first : (a b : Bool) → (a && b) ≡ true → a ≡ true
+both_first true b e = refl
+both_first false b e = absurd (false_true e)
 
-  pub no_forms : (ts : List Tree) (fs : List Form) (key : ℕ) (keys old now : List ℕ) → Goes ts (key ∷ keys) old now → ((t : Tree) (f : Form) → Holds names nodes key t → nest t ≤ 400 → IsSmallForm t f → ⊥) → AreShallow ts → AreForms ts fs → ⊥
-  no_forms ts fs key keys old now g none s a =
-      let f = first_held key keys g.left_ g.held in
-      let x = g.forms fs a in
-      let h = form_first f.it f.others x.0 (subst (λ (l : List Tree). AreForms l x.0) f.are x.1) in
-      none f.it h.0 f.held (subst AreShallow f.are (g.shallow s)).0 h.1
+both_second : (a b : Bool) → (a && b) ≡ true → b ≡ true
+both_second true b e = e
+both_second false b e = absurd (false_true e)
 
-  parts : (keys : List ℕ) (key : ℕ) (others : List ℕ) → Some (parted key others) ≡ first_of keys → keys ≡ key ∷ others
-  parts [] key others e = absurd (none_some _ (sym e))
-  parts (k ∷ ks) key others e = ap (λ (p : Parted). p.key ∷ p.others) (some_parted (parted k ks) (parted key others) (sym e))
+-- the term of a form
+record FormTerm (shared : Shared) (form : Form) : Type 0 where
+  term : Term
+  is : IsTermForm form term
+  shallow : nesting term ≤ most_open
+  few : term_nodes term ≤ form_weight shared.pairs.items form
 
-  pub goes_past : (ts : List Tree) (keys : List ℕ) (key : ℕ) (others : List ℕ) (n : ℕ) (old now next : List ℕ) → Some (parted key others) ≡ first_of keys → Goes ts keys old now → ((t : Tree) → Holds names nodes key t → BuiltAs t 0 n now next) → n ≤ 2000 → Goes ts others old next
-  goes_past ts keys key others n old now next e g b few = goes_on ts key others n old now next (subst (λ (l : List ℕ). Goes ts l old now) (parts keys key others e) g) b few
+square : (n : ℕ) → n ≤ (n + 8) * (n + 8)
+square n = let le = le-mul_of_pos_right {m = n + 8} (n + 8) (omega arith) in omega (arith, le)
 
-  pub stops_at : (ts : List Tree) (fs : List Form) (keys : List ℕ) (key : ℕ) (others old now : List ℕ) → Some (parted key others) ≡ first_of keys → Goes ts keys old now → ((t : Tree) (f : Form) → Holds names nodes key t → nest t ≤ 400 → IsSmallForm t f → ⊥) → AreShallow ts → AreForms ts fs → ⊥
-  stops_at ts fs keys key others old now e g none s a = no_forms ts fs key others old now (subst (λ (l : List ℕ). Goes ts l old now) (parts keys key others e) g) none s a
+form_term : (shared : Shared) (form : Form) → HasPlaces shared form → HasShapes shared form → IsDefinition shared form.kind form.nodes.items form.root → is_built_form form ≡ true → form_count shared.pairs.items form ≤ 2000 → FormTerm shared form
+form_term shared form places shapes definition built count =
+    let plain = plain_only form.kind (both_first _ _ built) in
+    let nodes_built : list_all is_built_node form.nodes.items ≡ true = both_second (is_plain form.kind) _ built in
+    let some : 0 < length form.nodes.items = subst (λ (k : FormKind). IsDefinition shared k form.nodes.items form.root) plain definition in
+    let tree = places.tree some in
+    let at = λ (k : ℕ) (there : k < length form.nodes.items). stands shared form.nodes.items places.names shapes nodes_built tree.parts_before k there in
+    let s = at form.root tree.root_there in
+    let few = term_few form.nodes.items tree.parts_before (λ k there. let x = at k there in (x.term, x.is)) form.root s.term tree s.is in
+    let counted = nodes_few shared.pairs.items form.nodes.items in
+    let root = tree.root_there in
+    let deep = s.shallow in
+    record {
+      term = s.term;
+      is = (plain, record { is = s.is; fixnums = s.fixnums; low = omega (arith, root, counted, count) });
+      shallow = omega (arith, deep, root, counted, count);
+      few = le_trans (omega (arith, few, counted)) (square (form_count shared.pairs.items form));
+    }
 
-  pub all_built : (ts : List Tree) (keys old now : List ℕ) → None ≡ first_of keys → Goes ts keys old now → AllBuilt ts old now
-  all_built ts [] old now e g = ends ts old now g
-  all_built ts (k ∷ ks) old now e g = absurd (none_some _ e)
+-- ---- a unit
 
--- the empty list before the forms, and the end behind them
-pub unit_built : (ts : List Tree) (one two three : List ℕ) → one ≡ [] ++ spelling (load empty_list) → AllBuilt ts one two → three ≡ two ++ spelling (Trap 0) → UnitBuilt ts three
-unit_built ts one two three a b c = record {
-  unit = b.unit;
-  are = b.are;
-  code_is = c ∙ ap (λ (l : List ℕ). l ++ spelling (Trap 0)) (b.code ∙ ap (λ (l : List ℕ). l ++ forms_code b.unit) a) ∙ append_assoc (spelling (load empty_list)) (forms_code b.unit) (spelling (Trap 0));
-}
+-- the literals and sums of terms
+abbrev pub total : List Term → ℕ
+total [] = 0
+total (t ∷ ts) = term_nodes t + total ts
+
+pub record UnitTerms (shared : Shared) (forms : List Form) : Type 0 where
+  pub terms : List Term
+  pub are : AreTerms forms terms
+  pub small : AreSmall terms
+  pub few : total terms ≤ sum_by (form_weight shared.pairs.items) forms
+
+forms_terms : (shared : Shared) (forms : List Form) → AllByRecursion (HasPlaces shared) forms → AllByRecursion (HasShapes shared) forms → AllByRecursion (λ form. IsDefinition shared form.kind form.nodes.items form.root) forms → list_all is_built_form forms ≡ true
+    → AllByRecursion (λ form. form_count shared.pairs.items form ≤ 2000) forms → UnitTerms shared forms
+forms_terms shared [] places shapes definitions built counts = record { terms = []; are = tt; small = tt; few = omega arith }
+forms_terms shared (form ∷ forms) places shapes definitions built counts =
+    let f = form_term shared form places.0 shapes.0 definitions.0 (both_first (is_built_form form) _ built) counts.0 in
+    let r = forms_terms shared forms places.1 shapes.1 definitions.1 (both_second (is_built_form form) _ built) counts.1 in
+    let one = f.few in
+    let rest = r.few in
+    let all = sum_by-cons (form_weight shared.pairs.items) form forms in
+    record {
+      terms = f.term ∷ r.terms;
+      are = (f.is, r.are);
+      small = ((f.is.1.fixnums, f.shallow), r.small);
+      few = omega (arith, one, rest, all);
+    }
+
+-- a unit that is built, with what limits its code
+pub record BuiltUnit (unit : UnitCore) : Type 0 where
+  pub terms : List Term
+  pub are : AreTerms unit.forms.items terms
+  pub small : AreSmall terms
+  pub few : total terms ≤ 4194304
+
+pub built_unit : (unit : UnitCore) → IsWhole unit → is_built unit ≡ true → limit_of unit ≡ Ok tt → BuiltUnit unit
+built_unit unit whole built within =
+    let sizes = none_over (form_count unit.shared.pairs.items) 2000 limit.FormNodes (weight_limit unit) 0 unit.forms.items within in
+    let u = forms_terms unit.shared unit.forms.items (recursion_from_All (HasPlaces unit.shared) unit.forms.items whole.places) (recursion_from_All (HasShapes unit.shared) unit.forms.items whole.shapes)
+    (recursion_from_All (λ (form : Form). IsDefinition unit.shared form.kind form.nodes.items form.root) unit.forms.items whole.definitions.forms) built sizes.all in
+    record { terms = u.terms; are = u.are; small = u.small; few = le_trans u.few (not_heavy unit sizes.rest) }

@@ -1,4 +1,4 @@
--- The code of a unit. A form leaves the word of its value in D0; a sum keeps that of its first operand in a static word.
+-- The code of a unit of terms. A term leaves the word of its value in D0; a sum keeps that of its first operand in a static word.
 use Rattle.std.specs.Prelude.{ℕ, ◌+◌, ◌*◌, List, [], ◌∷◌, ◌++◌, replicate, ℤ, pos, negsuc}
 use Rattle.std.specs.List.{flat_map}
 use Rattle.std.specs.Int.{w32, cast_unsigned}
@@ -10,8 +10,7 @@ use Rattle.m68020_code.specs.declared.instr.Instr.TheVariants.{MoveL, Moveq, Add
 use Rattle.m68020_code.specs.Table.{spelling}
 use Rattle.m68020_step.specs.declared.storage.TheConstants.{CODE_START, STATICS_START}
 use Rattle.image_file.specs.Grammar.{Parts}
-use Rattle.t_meaning.specs.Form.{Form, Literal, Sum}
-use Rattle.orbit_build.specs.Grammar.{most_open}
+use Rattle.orbit_build.specs.Sums.{Term, Literal, Sum, most_open}
 
 -- the word of a fixnum is four times it
 abbrev pub word : ℤ → ℕ
@@ -39,22 +38,22 @@ add_saved depth = MoveL (Abs (slot depth)) (D 1) ∷ AddL (D 1) 0 ∷ Bcc Vc Byt
 abbrev pub bytes_of : List Instr → List ℕ
 bytes_of code = flat_map spelling code
 
--- The bytes of a form under so many sums whose second operand it is part of.
-abbrev pub form_code : ℕ → Form → List ℕ
-form_code depth (Literal v) = spelling (load (word v))
-form_code depth (Sum a b) = form_code depth a ++ (spelling (save depth) ++ (form_code (depth + 1) b ++ bytes_of (add_saved depth)))
+-- The bytes of a term under so many sums whose second operand it is part of.
+abbrev pub term_code : ℕ → Term → List ℕ
+term_code depth (Literal v) = spelling (load (word v))
+term_code depth (Sum a b) = term_code depth a ++ (spelling (save depth) ++ (term_code (depth + 1) b ++ bytes_of (add_saved depth)))
 
-abbrev pub forms_code : List Form → List ℕ
-forms_code [] = []
-forms_code (f ∷ fs) = form_code 0 f ++ forms_code fs
+abbrev pub terms_code : List Term → List ℕ
+terms_code [] = []
+terms_code (t ∷ ts) = term_code 0 t ++ terms_code ts
 
--- the empty list, then each form, then the end with what is in D0
-abbrev pub unit_code : List Form → List ℕ
-unit_code unit = spelling (load empty_list) ++ (forms_code unit ++ spelling (Trap 0))
+-- the empty list, then each term, then the end with what is in D0
+abbrev pub unit_code : List Term → List ℕ
+unit_code terms = spelling (load empty_list) ++ (terms_code terms ++ spelling (Trap 0))
 
 -- one static word for each sum that may be open
 abbrev pub statics_bytes : ℕ
 statics_bytes = 4 * most_open
 
-abbrev pub image_of : List Form → Parts
-image_of unit = record { code = unit_code unit; statics = replicate statics_bytes 0; entry = CODE_START; names = [] }
+abbrev pub image_of : List Term → Parts
+image_of terms = record { code = unit_code terms; statics = replicate statics_bytes 0; entry = CODE_START; names = [] }

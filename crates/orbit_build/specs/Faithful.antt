@@ -1,36 +1,84 @@
--- When an image does what a text means.
-use Rattle.std.specs.Prelude.{◌≡◌, ℕ, ◌+◌, ◌*◌, true, List, [], ◌∷◌, max}
+-- What a text is compiled to, and why a text is not compiled.
+use Rattle.std.specs.Prelude.{◌≡◌, ℕ, ◌+◌, ◌*◌, true, false, List, Ok, Err}
 use Rattle.program_runs.specs.Keeps.{KeepsWithin}
-use Rattle.t_meaning.specs.Form.{Form}
-use Rattle.t_meaning.specs.Meaning.{meaning}
+use Rattle.t_base.specs.declared.basics.Span.{Span}
+use Rattle.t_reader.specs.Grammar.{Tree, Reads}
+use Rattle.t_core.specs.declared.forms.UnitCore.{UnitCore}
+use Rattle.t_core.specs.declared.limiting.LimitFault.{LimitFault}
+use Rattle.t_core.specs.Limits.{limit_of}
+use Rattle.t_rows.specs.declared.refusal.SyntaxKind.{SyntaxKind}
+use Rattle.t_rows.specs.Rows.{refusal}
+use Rattle.t_expand.specs.Meaning.{IsCoreOf}
+use Rattle.t_expand.specs.Refusals.{IsFirstRefusal}
+use Rattle.t_meaning.specs.Units.{meaning_at_most}
 use Rattle.image_file.specs.Grammar.{Parts, IsImageOf}
 use Rattle.m68020_step.specs.declared.machine.Sizes.{Sizes}
 use Rattle.m68020_step.specs.Boot.{is_size}
 use Rattle.orbit_monitor.specs.Observed.{observed}
-use Rattle.orbit_build.specs.Grammar.{form_nodes, Spells}
+use Rattle.orbit_build.specs.Sums.{is_built}
 
--- the literals and sums of the largest form of a unit
-abbrev pub largest : List Form → ℕ
-largest [] = 0
-largest (f ∷ fs) = max (form_nodes f) (largest fs)
+-- ---- texts
+
+-- the text has a reading, whose data have this core
+pub record HasCore (text : List ℕ) (unit : UnitCore) : Type 0 where
+  pub data_ : List Tree
+  pub reads : Reads text data_
+  pub spans : List (List Span)
+  pub core : IsCoreOf data_ unit spans
+
+-- the text has a reading, and this is the first refusal of its forms
+pub record HasRefusal (text : List ℕ) (kind : SyntaxKind) (span : Span) : Type 0 where
+  pub data_ : List Tree
+  pub reads : Reads text data_
+  pub first : IsFirstRefusal data_ (refusal kind span)
+
+-- the text has a core, and this is the first limit that it is over
+pub record IsOver (text : List ℕ) (fault : LimitFault) : Type 0 where
+  pub unit : UnitCore
+  pub core : HasCore text unit
+  pub over : limit_of unit ≡ Err fault
+
+-- the text has a core within the limits, which is not built
+pub record IsUnbuilt (text : List ℕ) : Type 0 where
+  pub unit : UnitCore
+  pub core : HasCore text unit
+  pub within : limit_of unit ≡ Ok tt
+  pub unbuilt : is_built unit ≡ false
+
+-- the text has a core within the limits, which is built
+pub record IsBuilt (text : List ℕ) : Type 0 where
+  pub unit : UnitCore
+  pub core : HasCore text unit
+  pub within : limit_of unit ≡ Ok tt
+  pub built : is_built unit ≡ true
+
+-- ---- images
 
 -- no frame has more words
-abbrev pub frame_words : List Form → ℕ
-frame_words unit = 8 + 2 * largest unit
+abbrev pub frame_words : UnitCore → ℕ
+frame_words unit = 8 + 2 * unit.shared.size
 
 -- so many instructions for each evaluation, and so many more
 abbrev pub factor : ℕ
 factor = 8
 
--- For all sizes the image's run keeps the meaning: ended runs and prefixes both ways, Full only where more was asked than
--- left and the unit's own cost is greater than the size, and no stop.
-abbrev pub KeepsMeaning : List Form → Parts → Type 0
-KeepsMeaning unit image = (sizes : Sizes) → is_size sizes.heap ≡ true → is_size sizes.stack ≡ true → KeepsWithin (frame_words unit) factor (meaning unit) (observed image sizes)
+-- For all sizes the image's run keeps the meaning, with every LAMBDA counted as escaping: ended runs and prefixes both ways, Full only
+-- where more was asked than left and the unit's own cost is greater than the size, and no stop.
+abbrev pub KeepsMeaning : UnitCore → Parts → Type 0
+KeepsMeaning unit image =
+    (sizes : Sizes) → is_size sizes.heap ≡ true → is_size sizes.stack ≡ true → KeepsWithin (frame_words unit) factor (meaning_at_most unit) (observed image sizes)
 
--- the bytes are an image that does what the text means
+-- the bytes are an image that does what the unit means
+pub record IsImageOfUnit (unit : UnitCore) (bytes : List ℕ) : Type 0 where
+  pub image : Parts
+  pub spelled : IsImageOf bytes image
+  pub keeps : KeepsMeaning unit image
+
+-- The text has a core within the limits, and the bytes are an image that does what the core means.
 pub record Faithful (text bytes : List ℕ) : Type 0 where
-  pub unit : List Form
-  pub spells : Spells text unit
+  pub unit : UnitCore
+  pub core : HasCore text unit
+  pub within : limit_of unit ≡ Ok tt
   pub image : Parts
   pub spelled : IsImageOf bytes image
   pub keeps : KeepsMeaning unit image

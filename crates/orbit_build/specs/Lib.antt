@@ -1,4 +1,5 @@
-pub mod Grammar
+pub mod Sums
 pub mod Code
-pub mod Reading
+pub mod Tasks
 pub mod Faithful
+pub mod Faults

@@ -1,61 +1,63 @@
 //! From a text to the bytes of its image.
 
-ghost use Rattle.std.specs.Prelude.{◌≡◌, ◌≤◌, ◌^◌, List, length, IfOk, IfErr, IsErrOf, Err, false};
+ghost use Rattle.std.specs.Prelude.{◌≡◌, ◌≤◌, ◌^◌, List, length, IfOk, IfErr, OnOk, IsErrOf, Err, Ok, false, true};
 ghost use Rattle.t_base.specs.declared.basics.Span.{Span};
-ghost use Rattle.t_meaning.specs.Form.{Form};
+ghost use Rattle.t_prim.specs.SharedParts.{HasLowerParts};
+ghost use Rattle.t_core.specs.Counts.{bulk_of};
+ghost use Rattle.t_core.specs.Limits.{limit_of};
+ghost use Rattle.t_core.specs.Whole.{IsWhole};
+ghost use Rattle.t_core.specs.declared.limiting.LimitFault.{LimitFault};
 ghost use Rattle.t_reader.specs.declared.fault.ReadFault.TheVariants as read_fault;
 ghost use Rattle.t_reader.specs.declared.fault.ReadKind.{ReadKind};
-ghost use Rattle.t_reader.specs.Grammar.{FirstFault, Tree};
-ghost use Rattle.t_reader.specs.Unit.{HoldTrees, IsWhole};
-ghost use Rattle.orbit_build.specs.Grammar.{AreForms, ReadsWithoutUnit};
-ghost use Rattle.orbit_build.specs.Reading.{AreShallow, UnitBuilt, is_read};
-ghost use Rattle.orbit_build.specs.Faithful.{Faithful};
+ghost use Rattle.t_reader.specs.Grammar.{FirstFault};
+ghost use Rattle.t_rows.specs.declared.refusal.SyntaxKind.{SyntaxKind};
+ghost use Rattle.orbit_build.specs.Sums.{is_built};
+ghost use Rattle.orbit_build.specs.Faults.{is_late};
+ghost use Rattle.orbit_build.specs.Faithful.{HasCore, HasRefusal, IsOver, IsUnbuilt, IsBuilt, IsImageOfUnit, Faithful};
 
-use crate::emit::{push, push_load};
+use t_expand::expand;
 use crate::fault::BuildFault;
-use crate::unit::build_forms;
+use crate::unit::{code_of, is_built};
 use image_file::{Image, write_image};
-use m68020_code::Instr;
 use std::alloc::Global;
-use t_base::Names;
-use t_reader::{Unit, read_unit};
+use t_base::{Memory, Names};
+use t_core::{UnitCore, limits};
+use t_objects::resolve_ops;
+use t_reader::read_unit;
 
 const CODE_START: u32 = 0x1_0000;
 
-/// The word of the empty list.
-const EMPTY_LIST: u32 = 5;
+/// Bytes of static words: each sum whose second operand is being evaluated has one.
+const STATICS: usize = 8000;
 
-/// Bytes of static words: each sum that may be open has one.
-const STATICS: usize = 1600;
-
-/// The code of a unit.
-fn code_of(alloc: Global, unit: &Unit) -> Result<Vec<u8>, BuildFault>
-    requires { IsWhole unit.now }
-    ensures built { IfOk result (λ code. (ts : List Tree) → HoldTrees unit.now.names unit.now.nodes.items unit.now.forms.items ts → UnitBuilt ts code.items) }
-    ensures unbuilt { IsErrOf result BuildFault.Unbuilt → (ts : List Tree) (fs : List Form) → HoldTrees unit.now.names unit.now.nodes.items unit.now.forms.items ts → AreShallow ts → ¬ AreForms ts fs }
-    ensures unread { IfErr result (λ e. is_read e ≡ false) }
-{
-    let mut code = Vec::new(alloc);
-    push_load(&mut code, EMPTY_LIST)?;
-    build_forms(unit, &mut code)?;
-    push(&mut code, Instr::Trap(0))?;
-    Ok(code)
-}
-
-/// The bytes of the image that does what a text of at most 2^20 bytes means.
+/// The core of a text of at most 2^20 bytes.
 ///
-/// Each datum of the text is a fixnum or a list of the symbol `+` and two such data, with at most 2,000 fixnums and lists.
-/// `Err(Read)` is the first fault of the text. `Err(Unbuilt)` comes only for a text that has a reading, but whose data are
-/// not such. `Err(Memory)` comes only where memory ran out.
-pub fn compile(alloc: Global, text: &[u8]) -> Result<Vec<u8>, BuildFault>
+/// `Err(Read)` is the first fault of the text. `Err(Syntax)` is the first refusal of the forms of a text that has no fault.
+/// `Err(Memory)` comes only where memory ran out. The other errors never come.
+pub fn read_core(alloc: Global, text: &[u8]) -> Result<UnitCore, BuildFault>
     requires { length text.now ≤ 2 ^ 20 }
-    ensures faithful { IfOk result (λ bytes. Faithful text.now bytes.items) }
-    ensures few { IfOk result (λ bytes. length bytes.items ≤ 2 ^ 29) }
-    ensures fault { (kind : ReadKind) (span : Span) → result ≡ Err (BuildFault.Read kind span) → FirstFault text.now (read_fault.Fault kind span) }
-    ensures unbuilt { IsErrOf result BuildFault.Unbuilt → ReadsWithoutUnit text.now }
+    ensures core { IfOk result (λ unit. HasCore text.now unit) }
+    ensures bulk { IfOk result (λ unit. bulk_of unit ≤ 2 ^ 31) }
+    ensures lower { IfOk result (λ unit. HasLowerParts unit.shared.pairs.items) }
+    ensures read { (kind : ReadKind) (span : Span) → result ≡ Err (BuildFault.Read kind span) → FirstFault text.now (read_fault.Fault kind span) }
+    ensures syntax { (kind : SyntaxKind) (span : Span) → result ≡ Err (BuildFault.Syntax kind span) → HasRefusal text.now kind span }
+    ensures early { IfErr result (λ e. is_late e ≡ false) }
 {
     let unit = read_unit(alloc, text)?;
-    let code = code_of(alloc, &unit)?;
+    let ops = resolve_ops(alloc, &unit)?;
+    let core = expand(alloc, unit, &ops)?;
+    Ok(core)
+}
+
+/// The bytes of the image of a built unit.
+fn image_of(alloc: Global, unit: &UnitCore) -> Result<Vec<u8>, Memory>
+    requires whole { IsWhole unit.now }
+    requires built { is_built unit.now ≡ true }
+    requires within { limit_of unit.now ≡ Ok tt }
+    ensures image { IfOk result (λ bytes. IsImageOfUnit unit.now bytes.items) }
+    ensures few { IfOk result (λ bytes. length bytes.items ≤ 2 ^ 29) }
+{
+    let code = code_of(alloc, unit)?;
     let statics = vec![in alloc; 0u8; STATICS]?;
     let image = Image {
         code,
@@ -64,5 +66,30 @@ pub fn compile(alloc: Global, text: &[u8]) -> Result<Vec<u8>, BuildFault>
         names: Names::new(alloc),
     };
     let bytes = write_image(alloc, &image)?;
+    Ok(bytes)
+}
+
+/// The bytes of the image that does what a text of at most 2^20 bytes means.
+///
+/// `Err(Read)` is the first fault of the text. `Err(Syntax)` is the first refusal of the forms of a text that has no fault.
+/// `Err(Limit)` is the first limit that the unit of such forms is over. `Err(Unbuilt)` comes only for a text within the limits
+/// whose unit has a defining form, or a node that is neither a fixnum nor a sum, and `Ok` only for one whose unit has none.
+/// `Err(Memory)` comes only where memory ran out.
+pub fn compile(alloc: Global, text: &[u8]) -> Result<Vec<u8>, BuildFault>
+    requires { length text.now ≤ 2 ^ 20 }
+    ensures faithful { IfOk result (λ bytes. Faithful text.now bytes.items) }
+    ensures built { OnOk result (IsBuilt text.now) }
+    ensures few { IfOk result (λ bytes. length bytes.items ≤ 2 ^ 29) }
+    ensures read { (kind : ReadKind) (span : Span) → result ≡ Err (BuildFault.Read kind span) → FirstFault text.now (read_fault.Fault kind span) }
+    ensures syntax { (kind : SyntaxKind) (span : Span) → result ≡ Err (BuildFault.Syntax kind span) → HasRefusal text.now kind span }
+    ensures limit { (fault : LimitFault) → result ≡ Err (BuildFault.Limit fault) → IsOver text.now fault }
+    ensures unbuilt { IsErrOf result BuildFault.Unbuilt → IsUnbuilt text.now }
+{
+    let unit = read_core(alloc, text)?;
+    limits(&unit)?;
+    if !is_built(&unit) {
+        return Err(BuildFault::Unbuilt);
+    }
+    let bytes = image_of(alloc, &unit)?;
     Ok(bytes)
 }

@@ -2,7 +2,7 @@
 
 ghost use Rattle.std.specs.Prelude.{◌≡◌, ◌<◌, ◌++◌, OnOk, IsTrue, true};
 ghost use Rattle.m68020_code.specs.Table.{is_row, spelling};
-ghost use Rattle.t_meaning.specs.Form.{is_fixnum};
+ghost use Rattle.t_prim.specs.Operands.{in_range};
 ghost use Rattle.orbit_build.specs.Code.{word, slot, load, save, add_saved, bytes_of};
 
 use m68020_code::{Cond, Ea, Instr, Width, encode};
@@ -12,7 +12,7 @@ const STATICS_START: u32 = 0x2000_0000;
 
 /// The word of a fixnum.
 pub fn word_of(value: i32) -> u32
-    requires { is_fixnum value ≡ true }
+    requires { in_range value ≡ true }
     ensures { result ≡ word value }
 {
     (value * 4).cast_unsigned()
@@ -44,7 +44,7 @@ pub fn push_load(out: &mut Vec<u8>, value: u32) -> Result<(), Memory>
 
 // The static word of a sum under so many others.
 fn slot(depth: u32) -> u32
-    requires { depth < 400 }
+    requires { depth < 2000 }
     ensures { result ≡ slot depth }
 {
     STATICS_START + 4 * depth
@@ -52,7 +52,7 @@ fn slot(depth: u32) -> u32
 
 /// The static word of a sum gets its first operand.
 pub fn push_save(out: &mut Vec<u8>, depth: u32) -> Result<(), Memory>
-    requires { depth < 400 }
+    requires { depth < 2000 }
     ensures { OnOk result (out.new.items ≡ out.old.items ++ spelling (save depth)) }
 {
     push(
@@ -66,7 +66,7 @@ pub fn push_save(out: &mut Vec<u8>, depth: u32) -> Result<(), Memory>
 
 /// D0 gets the sum of the first operand and itself, or fault 7 is raised.
 pub fn push_add(out: &mut Vec<u8>, depth: u32) -> Result<(), Memory>
-    requires { depth < 400 }
+    requires { depth < 2000 }
     ensures { OnOk result (out.new.items ≡ out.old.items ++ bytes_of (add_saved depth)) }
 {
     push(

@@ -2,6 +2,8 @@
 
 use std::alloc::AllocError;
 use t_base::{Memory, Span};
+use t_core::LimitFault;
+use t_expand::{SyntaxFault, SyntaxKind};
 use t_reader::{ReadFault, ReadKind};
 use thiserror::Error;
 
@@ -10,7 +12,13 @@ pub enum BuildFault {
     /// The first fault of the text, and where it stands.
     #[error("the text has a fault")]
     Read { kind: ReadKind, span: Span },
-    /// The text has a reading, but a form of it is none of those that are built so far.
+    /// The first refusal of the forms, and where it stands.
+    #[error("a form is refused")]
+    Syntax { kind: SyntaxKind, span: Span },
+    /// The first limit that the unit is over.
+    #[error("the unit is over a limit")]
+    Limit(LimitFault),
+    /// Nothing is refused, but the unit has a defining form, or a node that is neither a fixnum nor a sum.
     #[error("not built yet")]
     Unbuilt,
     /// There was no memory.
@@ -20,15 +28,40 @@ pub enum BuildFault {
 
 impl From<ReadFault> for BuildFault {
     ghost use Rattle.std.specs.Prelude.{◌≡◌};
-    ghost use Rattle.orbit_build.specs.Reading.{fault_of};
+    ghost use Rattle.orbit_build.specs.Faults.{of_read};
 
-    ghost from_gives = { λ f e. e ≡ fault_of f };
+    ghost from_gives = { λ f e. e ≡ of_read f };
 
     fn from(fault: ReadFault) -> Self {
         match fault {
             ReadFault::Fault { kind, span } => BuildFault::Read { kind, span },
             ReadFault::Memory => BuildFault::Memory,
         }
+    }
+}
+
+impl From<SyntaxFault> for BuildFault {
+    ghost use Rattle.std.specs.Prelude.{◌≡◌};
+    ghost use Rattle.orbit_build.specs.Faults.{of_syntax};
+
+    ghost from_gives = { λ f e. e ≡ of_syntax f };
+
+    fn from(fault: SyntaxFault) -> Self {
+        match fault {
+            SyntaxFault::Fault { kind, span } => BuildFault::Syntax { kind, span },
+            SyntaxFault::Memory => BuildFault::Memory,
+        }
+    }
+}
+
+impl From<LimitFault> for BuildFault {
+    ghost use Rattle.std.specs.Prelude.{◌≡◌};
+    ghost use Rattle.orbit_build.specs.declared.fault.BuildFault.TheVariants as faults;
+
+    ghost from_gives = { λ f e. e ≡ faults.Limit f };
+
+    fn from(fault: LimitFault) -> Self {
+        BuildFault::Limit(fault)
     }
 }
 

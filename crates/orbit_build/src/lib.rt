@@ -1,13 +1,12 @@
-//! From the bytes of a text to the bytes of its image. The reader gives the data of the text; so far the units that are
-//! built are those whose data are literals and sums. The code of each form is put out as its nodes are visited.
+//! From the bytes of a text to the bytes of its image: the text is read, its forms are expanded, and a unit within the limits is
+//! compiled. So far the units that are built are those whose forms are fixnums and sums. Their code is put out node by node.
 #![tactic(auto)]
 
 mod build;
-mod data;
 mod emit;
 mod fault;
-mod form;
+mod term;
 mod unit;
 
-pub use build::compile;
+pub use build::{compile, read_core};
 pub use fault::BuildFault;

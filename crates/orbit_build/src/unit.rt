@@ -1,42 +1,81 @@
-//! All forms of a unit, put out as code.
+//! Which units are built, and their code.
 
-ghost use Rattle.std.specs.Prelude.{◌≡◌, ◌<◌, List, length, OnOk, IfErr, IfSome, IsErrOf, false};
-ghost use Rattle.std.specs.Option.{option_map};
-ghost use Rattle.t_meaning.specs.Form.{Form};
-ghost use Rattle.t_reader.specs.Grammar.{Tree};
-ghost use Rattle.t_reader.specs.Unit.{HoldTrees, IsWhole};
-ghost use Rattle.orbit_build.specs.Grammar.{AreForms};
-ghost use Rattle.orbit_build.specs.Reading.{AllBuilt, AreShallow, first_of, is_read, parted};
+ghost use Rattle.std.specs.Prelude.{◌≡◌, ◌++◌, List, OnOk, IfOk};
+ghost use Rattle.std.specs.List.{list_all};
+ghost use Rattle.m68020_code.specs.Table.{spelling};
+ghost use Rattle.orbit_build.specs.Code.{terms_code, unit_code};
+ghost use Rattle.orbit_build.specs.Sums.{Term, AreTerms, is_fixnum, is_add, is_plain, is_built_node, is_built_form, is_built};
 
-use crate::fault::BuildFault;
-use crate::form::build_form;
-use t_reader::Unit;
+use crate::emit::{push, push_load};
+use crate::term::put_term;
+use m68020_code::Instr;
+use std::alloc::Global;
+use t_base::{Const, Memory, Prim};
+use t_core::{Core, Form, FormKind, UnitCore};
 
-/// At most so many sums are open at once, as lists are in a text.
-const MOST_OPEN: u32 = 400;
+/// The word of the empty list.
+const EMPTY_LIST: u32 = 5;
 
-/// The first place, and the others.
-fn first_of(keys: &[u32]) -> Option<(u32, &[u32])>
-    ensures value { option_map (λ p. parted p.0 p.1.now) result ≡ first_of keys.now }
-    ensures within { IfSome result (λ p. length p.1.now < length keys.now) }
+fn is_built_node(node: &Core) -> bool
+    ensures { result ≡ is_built_node node.now }
 {
-    let [key, others @ ..] = keys else {
-        return None;
-    };
-    Some((*key, others))
+    match node {
+        Core::Const(Const::Fix(_))
+        | Core::Prim {
+            prim: Prim::Add,
+            ..
+        } => true,
+        _ => false,
+    }
 }
 
-/// The forms of a unit, one after the other.
-pub fn build_forms(unit: &Unit, out: &mut Vec<u8>) -> Result<(), BuildFault>
-    requires { IsWhole unit.now }
-    ensures built { OnOk result ((ts : List Tree) → HoldTrees unit.now.names unit.now.nodes.items unit.now.forms.items ts → AllBuilt ts out.old.items out.new.items) }
-    ensures unbuilt { IsErrOf result BuildFault.Unbuilt → (ts : List Tree) (fs : List Form) → HoldTrees unit.now.names unit.now.nodes.items unit.now.forms.items ts → AreShallow ts → ¬ AreForms ts fs }
-    ensures unread { IfErr result (λ e. is_read e ≡ false) }
+fn is_plain(kind: FormKind) -> bool
+    ensures { result ≡ is_plain kind }
 {
-    let mut keys = unit.forms.as_slice();
-    'forms: while let Some((key, others)) = first_of(keys) {
-        build_form(unit, key, MOST_OPEN, 0, out)?;
-        keys = others;
+    match kind {
+        FormKind::Plain => true,
+        _ => false,
+    }
+}
+
+fn are_built(nodes: &[Core]) -> bool
+    ensures { result ≡ list_all is_built_node nodes.now }
+{
+    nodes.iter().all(is_built_node)
+}
+
+fn is_built_form(form: &Form) -> bool
+    ensures { result ≡ is_built_form form.now }
+{
+    is_plain(form.kind) && are_built(form.nodes.as_slice())
+}
+
+/// Whether the unit has no defining form and no nodes other than fixnum constants and sums.
+pub fn is_built(unit: &UnitCore) -> bool
+    ensures { result ≡ is_built unit.now }
+{
+    unit.forms.iter().all(is_built_form)
+}
+
+/// The forms are put out, one behind the other.
+fn put_forms(alloc: Global, forms: &[Form], out: &mut Vec<u8>) -> Result<(), Memory>
+    requires { (ts : List Term) × AreTerms forms.now ts }
+    ensures { (ts : List Term) → AreTerms forms.now ts → OnOk result (out.new.items ≡ out.old.items ++ terms_code ts) }
+{
+    for form in forms {
+        put_term(alloc, form.nodes.as_slice(), form.root, out)?;
     }
     Ok(())
+}
+
+/// The code of a unit.
+pub fn code_of(alloc: Global, unit: &UnitCore) -> Result<Vec<u8>, Memory>
+    requires { (ts : List Term) × AreTerms unit.now.forms.items ts }
+    ensures { (ts : List Term) → AreTerms unit.now.forms.items ts → IfOk result (λ code. code.items ≡ unit_code ts) }
+{
+    let mut code = Vec::new(alloc);
+    push_load(&mut code, EMPTY_LIST)?;
+    put_forms(alloc, unit.forms.as_slice(), &mut code)?;
+    push(&mut code, Instr::Trap(0))?;
+    Ok(code)
 }

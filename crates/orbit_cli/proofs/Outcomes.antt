@@ -6,6 +6,7 @@ use Rattle.t_ports.specs.declared.ports.Sink.{Ghosts as SinkOf}
 use Rattle.t_ports.specs.Causes.{Rose}
 use Rattle.t_ports.specs.Files.{Files, IfBothTold, IsSame, Puts}
 use Rattle.program_runs.specs.Runs.{Broken}
+use Rattle.t_core.specs.declared.forms.UnitCore.{UnitCore}
 use Rattle.image_file.specs.Grammar.{Parts, IsImageOf}
 use Rattle.image_file.proofs.Laws.{one_image}
 use Rattle.orbit_build.specs.Faithful.{Faithful, KeepsMeaning}
@@ -14,16 +15,18 @@ use Rattle.orbit_monitor.specs.declared.end.Exit.TheVariants as exit
 use Rattle.orbit_monitor.specs.Run.{run}
 use Rattle.orbit_monitor.specs.Observed.{end_of}
 use Rattle.orbit_monitor.specs.Answering.{Loaded}
+use Rattle.orbit_cli.specs.declared.prepare.Counts.{Counts}
 use Rattle.orbit_cli.specs.declared.words.Bounds.{Bounds}
 use Rattle.orbit_cli.specs.declared.status.Status.{Status}
 use Rattle.orbit_cli.specs.declared.status.Status.TheVariants as status
 use Rattle.orbit_cli.specs.declared.refusal.Refusal.{Refusal}
 use Rattle.orbit_cli.specs.declared.refusal.Refusal.TheVariants as refusal
-use Rattle.orbit_cli.specs.Answer.{Answer, answer, answer_on, listing_answer, printed, end_status, full_status}
+use Rattle.orbit_cli.specs.Lines.{counts_line}
+use Rattle.orbit_cli.specs.Answer.{Answer, answer, answer_on, listing_answer, most_nodes, counts_answer, printed, end_status, full_status}
 use Rattle.orbit_cli.specs.Changes.{Change, change, IsIdle, Says, IsUnchanged, Keeps}
 use Rattle.orbit_cli.specs.Command.{AreSizes}
-use Rattle.orbit_cli.specs.Outcome.{IsCompiled, CompileOutcome, CheckOutcome, IsAnswered, IsUnwritten, IsRun, RunOutcome, ListOutcome, IsKeptAndRun, GoOutcome}
-use Rattle.orbit_cli.specs.Parts.{refusal_line, refusal_status, CompileCause, CheckCause, ImageCause, KeepCause, IsTranslated, IsFetchedProgram, IsFetchedListing, IsProgram, Reports}
+use Rattle.orbit_cli.specs.Outcome.{IsCompiled, CompileOutcome, OfCore, CheckOutcome, IsAnswered, IsUnwritten, IsRun, RunOutcome, ListOutcome, IsKeptAndRun, GoOutcome}
+use Rattle.orbit_cli.specs.Parts.{refusal_line, refusal_status, CompileCause, CheckCause, ImageCause, KeepCause, IsTranslated, IsFetchedCounts, IsFetchedProgram, IsFetchedListing, IsProgram, Reports}
 
 -- ---- folders
 
@@ -49,6 +52,7 @@ module _ {F : Type 0} (f : FolderOf F) (old mid new : F) (same : IsUnchanged f (
   kept img k = record {
     text = translated.text;
     given = record { told = translated.given.told; short = translated.given.short };
+    built = translated.built;
     faithful = translated.faithful;
     kept = puts_after_same (f.files old) (f.files mid) (f.files new) img bytes same k;
   }
@@ -60,12 +64,13 @@ module _ {F : Type 0} (f : FolderOf F) (old mid new : F) (same : IsUnchanged f (
   pub unkept : (r : Refusal) → KeepCause f (change mid new) r → CompileCause f (change old new) src r
   unkept refusal.Unkept h = (
     subst (λ (n : ℕ). Rose n (f.keep_faults new)) keeps h,
-    (translated.text, record { told = translated.given.told; short = translated.given.short }, (bytes, translated.faithful)),
+    (translated.text, record { told = translated.given.told; short = translated.given.short }, (bytes, translated.built, translated.faithful)),
   )
   unkept refusal.Memory h = tt
   unkept refusal.Unread h = absurd h
   unkept refusal.Long h = absurd h
   unkept (refusal.Source kind line column) h = absurd h
+  unkept (refusal.Over fault) h = absurd h
   unkept (refusal.Bad kind at) h = absurd h
   unkept refusal.Unbuilt h = absurd h
 
@@ -76,6 +81,7 @@ module _ {F E : Type 0} (f : FolderOf F) (e : SinkOf E) (folder : Change F) (err
   compile_refused_so src img refusal.Unread u h n = record { unchanged = u; noted = n; why = h }
   compile_refused_so src img refusal.Long u h n = record { unchanged = u; noted = n; why = h }
   compile_refused_so src img (refusal.Source kind line column) u h n = (kind, line, column, record { unchanged = u; noted = n; why = h })
+  compile_refused_so src img (refusal.Over fault) u h n = (fault, record { unchanged = u; noted = n; why = h })
   compile_refused_so src img (refusal.Bad kind at) u h n = absurd h
   compile_refused_so src img refusal.Unbuilt u h n = record { unchanged = u; noted = n; why = h }
   compile_refused_so src img refusal.Unkept u h n = record { unchanged = u; noted = n; why = h }
@@ -83,18 +89,6 @@ module _ {F E : Type 0} (f : FolderOf F) (e : SinkOf E) (folder : Change F) (err
 
   pub compile_refused : (src img : List ℕ) (r : Refusal) (ended : Status) → IsUnchanged f folder → CompileCause f folder src r → ended ≡ refusal_status r → Says e err (refusal_line src r) → CompileOutcome f e folder err src img ended
   compile_refused src img r ended u h is n = subst (λ (s : Status). CompileOutcome f e folder err src img s) (sym is) (compile_refused_so src img r u h n)
-
-  check_refused_so : (src : List ℕ) (r : Refusal) → IsUnchanged f folder → CheckCause f folder src r → Says e err (refusal_line src r) → CheckOutcome f e folder err src (refusal_status r)
-  check_refused_so src refusal.Unread u h n = record { unchanged = u; noted = n; why = h }
-  check_refused_so src refusal.Long u h n = record { unchanged = u; noted = n; why = h }
-  check_refused_so src (refusal.Source kind line column) u h n = (kind, line, column, record { unchanged = u; noted = n; why = h })
-  check_refused_so src (refusal.Bad kind at) u h n = absurd h
-  check_refused_so src refusal.Unbuilt u h n = record { unchanged = u; noted = n; why = h }
-  check_refused_so src refusal.Unkept u h n = absurd h
-  check_refused_so src refusal.Memory u h n = record { unchanged = u; noted = n; why = tt }
-
-  pub check_refused : (src : List ℕ) (r : Refusal) (ended : Status) → IsUnchanged f folder → CheckCause f folder src r → ended ≡ refusal_status r → Says e err (refusal_line src r) → CheckOutcome f e folder err src ended
-  check_refused src r ended u h is n = subst (λ (s : Status). CheckOutcome f e folder err src s) (sym is) (check_refused_so src r u h n)
 
 -- ---- how a run ends
 
@@ -136,6 +130,7 @@ module _ {F S E : Type 0} (f : FolderOf F) (o : SinkOf S) (e : SinkOf E) (folder
     run_refused_so (refusal.Bad kind at) i u h n = (i, (kind, at, record { unchanged = u; noted = n; why = h }))
     run_refused_so refusal.Memory i u h n = (i, record { unchanged = u; noted = n; why = tt })
     run_refused_so (refusal.Source kind line column) i u h n = absurd h
+    run_refused_so (refusal.Over fault) i u h n = absurd h
     run_refused_so refusal.Unbuilt i u h n = absurd h
     run_refused_so refusal.Unkept i u h n = absurd h
 
@@ -162,6 +157,47 @@ module _ {F S E : Type 0} (f : FolderOf F) (o : SinkOf S) (e : SinkOf E) (folder
           (λ u. subst (λ (s : Status). RunOutcome f o e folder out err img bounds s) (sym u.1) (run_cut u.0))
           (subst (λ (x : Answer). Reports o e out err x ended) answer_is r)
 
+  -- ---- check
+
+  module _ (src : List ℕ) where
+    check_refused_so : (r : Refusal) → IsIdle out → IsUnchanged f folder → CheckCause f folder src r → Says e err (refusal_line src r) → CheckOutcome f o e folder out err src (refusal_status r)
+    check_refused_so refusal.Unread i u h n = (i, record { unchanged = u; noted = n; why = h })
+    check_refused_so refusal.Long i u h n = (i, record { unchanged = u; noted = n; why = h })
+    check_refused_so (refusal.Source kind line column) i u h n = (i, (kind, line, column, record { unchanged = u; noted = n; why = h }))
+    check_refused_so (refusal.Over fault) i u h n = (i, (fault, record { unchanged = u; noted = n; why = h }))
+    check_refused_so (refusal.Bad kind at) i u h n = absurd h
+    check_refused_so refusal.Unbuilt i u h n = absurd h.2
+    check_refused_so refusal.Unkept i u h n = absurd h
+    check_refused_so refusal.Memory i u h n = (i, record { unchanged = u; noted = n; why = tt })
+
+    pub check_refused : (r : Refusal) (ended : Status) → IsIdle out → IsUnchanged f folder → CheckCause f folder src r → ended ≡ refusal_status r → Says e err (refusal_line src r) → CheckOutcome f o e folder out err src ended
+    check_refused r ended i u h is n = subst (λ (s : Status). CheckOutcome f o e folder out err src s) (sym is) (check_refused_so r i u h n)
+
+    module _ (same : IsUnchanged f folder) (counts : Counts) (h : IsFetchedCounts f folder src counts) where
+      counts_are : printed (counts_line counts.nodes counts.weight) ≡ counts_answer h.counted.unit
+      counts_are =
+          ap (λ (n : ℕ). printed (counts_line n counts.weight)) h.counted.nodes_are
+          ∙ ap (λ (n : ℕ). printed (counts_line (most_nodes h.counted.unit) n)) h.counted.weight_is
+
+      told : (IsDue : UnitCore → Type 0) → IsDue h.counted.unit → OfCore f o e folder out err src IsDue
+      told IsDue due = record { text = h.text; unit = h.counted.unit; given = h.given; core = h.counted.core; within = h.counted.within; unchanged = same; due = due }
+
+      abbrev ChecksTo : Status → Type 0
+      ChecksTo s = IsAnswered o e out err (counts_answer h.counted.unit) s → CheckOutcome f o e folder out err src s
+
+      checked_done : ChecksTo status.Done
+      checked_done a = told (λ unit. IsAnswered o e out err (counts_answer unit) status.Done) a
+
+      check_cut : IsUnwritten o e out err (counts_answer h.counted.unit) → CheckOutcome f o e folder out err src status.WriteFault
+      check_cut u = told (λ unit. IsUnwritten o e out err (counts_answer unit)) u
+
+      pub checked : (ended : Status) → Reports o e out err (printed (counts_line counts.nodes counts.weight)) ended → CheckOutcome f o e folder out err src ended
+      checked ended r =
+          ⊎_elim
+          (λ a. subst ChecksTo a.status_is checked_done a)
+          (λ u. subst (λ (s : Status). CheckOutcome f o e folder out err src s) (sym u.1) (check_cut u.0))
+          (subst (λ (x : Answer). Reports o e out err x ended) counts_are r)
+
   -- ---- list
 
   module _ (img : List ℕ) where
@@ -171,6 +207,7 @@ module _ {F S E : Type 0} (f : FolderOf F) (o : SinkOf S) (e : SinkOf E) (folder
     list_refused_so (refusal.Bad kind at) i u h n = (i, (kind, at, record { unchanged = u; noted = n; why = h }))
     list_refused_so refusal.Memory i u h n = (i, record { unchanged = u; noted = n; why = tt })
     list_refused_so (refusal.Source kind line column) i u h n = absurd h
+    list_refused_so (refusal.Over fault) i u h n = absurd h
     list_refused_so refusal.Unbuilt i u h n = absurd h
     list_refused_so refusal.Unkept i u h n = absurd h
 
@@ -201,6 +238,7 @@ module _ {F S E : Type 0} (f : FolderOf F) (o : SinkOf S) (e : SinkOf E) (folder
     go_refused_so refusal.Unread i u h n = (i, compile_refused_so f e folder err src img refusal.Unread u h n)
     go_refused_so refusal.Long i u h n = (i, compile_refused_so f e folder err src img refusal.Long u h n)
     go_refused_so (refusal.Source kind line column) i u h n = (i, compile_refused_so f e folder err src img (refusal.Source kind line column) u h n)
+    go_refused_so (refusal.Over fault) i u h n = (i, compile_refused_so f e folder err src img (refusal.Over fault) u h n)
     go_refused_so (refusal.Bad kind at) i u h n = absurd h
     go_refused_so refusal.Unbuilt i u h n = (i, compile_refused_so f e folder err src img refusal.Unbuilt u h n)
     go_refused_so refusal.Unkept i u h n = inr (i, compile_refused_so f e folder err src img refusal.Unkept u h n)

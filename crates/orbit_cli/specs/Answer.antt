@@ -1,6 +1,9 @@
--- What is put of an image: the answer of its run, or its listing.
+-- What is put of an image, which is the answer of its run or its listing, and of a text that is checked.
 use Rattle.std.specs.Prelude.{ℕ, Bool, true, false, List, [], ◌++◌, Option, Some, None}
 use Rattle.m68020_step.specs.declared.machine.Sizes.{Sizes}
+use Rattle.t_core.specs.declared.forms.UnitCore.{UnitCore}
+use Rattle.t_core.specs.Counts.{form_count, weight_of}
+use Rattle.t_core.specs.Limits.{greatest}
 use Rattle.image_file.specs.Grammar.{Parts}
 use Rattle.orbit_tools.specs.Listing.{listing_of}
 use Rattle.orbit_monitor.specs.declared.end.Exit.{Exit}
@@ -9,7 +12,7 @@ use Rattle.orbit_monitor.specs.Observed.{shown_of}
 use Rattle.orbit_monitor.specs.Answering.{Loaded, fresh, run_on, last_after}
 use Rattle.orbit_cli.specs.declared.status.Status.{Status}
 use Rattle.orbit_cli.specs.declared.status.Status.TheVariants as status
-use Rattle.orbit_cli.specs.Lines.{shown_text, value_line, fault_line, full_line, limit_line, stop_line}
+use Rattle.orbit_cli.specs.Lines.{shown_text, value_line, fault_line, full_line, limit_line, stop_line, counts_line}
 
 -- what is put to out, the line that is put to err, and the status
 pub record Answer : Type 0 where
@@ -66,3 +69,10 @@ printed text = record { out = text; err = []; status = status.Done }
 
 abbrev pub listing_answer : Parts → Answer
 listing_answer image = printed (listing_of image.code)
+
+-- the nodes of the largest form
+abbrev pub most_nodes : UnitCore → ℕ
+most_nodes unit = greatest (form_count unit.shared.pairs.items) unit.forms.items
+
+abbrev pub counts_answer : UnitCore → Answer
+counts_answer unit = printed (counts_line (most_nodes unit) (weight_of unit))

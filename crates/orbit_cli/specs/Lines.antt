@@ -7,10 +7,16 @@ use Rattle.t_base.specs.declared.faults.Fault.TheVariants.{NotProcedure, WrongCo
 use Rattle.program_runs.specs.Runs.{Shown, Fixnum, Character, EmptyList, Truth, Symbol, Kind}
 use Rattle.t_reader.specs.declared.fault.ReadKind.{ReadKind}
 use Rattle.t_reader.specs.declared.fault.ReadKind.TheVariants.{BadByte, Unclosed, ExtraClose, FixnumRange, BadHash, BadString, LoneDot, TooDeep}
+use Rattle.t_core.specs.declared.limiting.LimitFault.{LimitFault}
+use Rattle.t_core.specs.declared.limiting.LimitFault.TheVariants.{FormNodes, UnitWeight, Params}
+use Rattle.t_rows.specs.declared.refusal.SyntaxKind.{SyntaxKind}
+use Rattle.t_rows.specs.declared.refusal.SyntaxKind.TheVariants.{BadForm, Twice, ParamTwice, NotOperation, NotSettable, NotTopLevel, ConstantSet, FreeName}
 use Rattle.image_file.specs.declared.fault.ImageKind.{ImageKind}
 use Rattle.image_file.specs.declared.fault.ImageKind.TheVariants.{Magic, Version, Short, Long, Field}
 use Rattle.m68020_step.specs.declared.registers.Why.{Why}
 use Rattle.m68020_step.specs.declared.registers.Why.TheVariants.{Illegal, BadAddress, OddAddress, ZeroDivide, BadService}
+use Rattle.orbit_cli.specs.declared.refusal.SourceKind.{SourceKind}
+use Rattle.orbit_cli.specs.declared.refusal.SourceKind.TheVariants as source
 
 -- a character without a name: as its byte, or by its number in three digits
 abbrev pub unnamed_text : ℕ → List ℕ
@@ -126,12 +132,53 @@ read_kind_name BadString = codes "R6 BadString"
 read_kind_name LoneDot = codes "R7 LoneDot"
 read_kind_name TooDeep = codes "R8 TooDeep"
 
--- of a text with a fault: its name, line and column, and the refusal
+abbrev pub syntax_kind_name : SyntaxKind → List ℕ
+syntax_kind_name BadForm = codes "S1 BadForm"
+syntax_kind_name Twice = codes "S2 Twice"
+syntax_kind_name ParamTwice = codes "S3 ParamTwice"
+syntax_kind_name NotOperation = codes "S4 NotOperation"
+syntax_kind_name NotSettable = codes "S5 NotSettable"
+syntax_kind_name NotTopLevel = codes "S6 NotTopLevel"
+syntax_kind_name ConstantSet = codes "S7 ConstantSet"
+syntax_kind_name FreeName = codes "S8 FreeName"
+
+abbrev pub source_kind_name : SourceKind → List ℕ
+source_kind_name (source.Read kind) = read_kind_name kind
+source_kind_name (source.Syntax kind) = syntax_kind_name kind
+
+-- of a text that is refused at a place: its name, line and column, and the refusal
 abbrev pub located_line : List ℕ → List ℕ → List ℕ → List ℕ → List ℕ
 located_line src line column refusal = src ++ (codes ":" ++ (line ++ (codes ":" ++ (column ++ (codes ": " ++ (refusal ++ codes "\n"))))))
 
-abbrev pub source_line : List ℕ → ℕ → ℕ → ReadKind → List ℕ
-source_line src line column kind = located_line src (decimal line) (decimal column) (read_kind_name kind)
+abbrev pub source_line : List ℕ → ℕ → ℕ → SourceKind → List ℕ
+source_line src line column kind = located_line src (decimal line) (decimal column) (source_kind_name kind)
+
+-- the limits of a text, as they are printed
+abbrev pub limit_name : LimitFault → List ℕ
+limit_name (FormNodes form count) = codes "L1 FormNodes"
+limit_name (UnitWeight count) = codes "L2 UnitWeight"
+limit_name (Params form count) = codes "L3 Params"
+
+abbrev pub limit_count : LimitFault → ℕ
+limit_count (FormNodes form count) = count
+limit_count (UnitWeight count) = count
+limit_count (Params form count) = count
+
+abbrev pub limit_number : LimitFault → ℕ
+limit_number (FormNodes form count) = 2000
+limit_number (UnitWeight count) = 2 ^ 22
+limit_number (Params form count) = 20
+
+-- of a text that is over a limit: its name, the limit, the count and the limit's number
+abbrev pub count_line : List ℕ → List ℕ → List ℕ → List ℕ → List ℕ
+count_line src limit count number = src ++ (codes ": " ++ (limit ++ (codes " " ++ (count ++ (codes " over " ++ (number ++ codes "\n"))))))
+
+abbrev pub over_line : List ℕ → LimitFault → List ℕ
+over_line src fault = count_line src (limit_name fault) (decimal (limit_count fault)) (decimal (limit_number fault))
+
+-- of a text that isn't refused: the nodes of its largest form, and its weight
+abbrev pub counts_line : ℕ → ℕ → List ℕ
+counts_line nodes weight = codes "nodes " ++ (decimal nodes ++ (codes " weight " ++ (decimal weight ++ codes "\n")))
 
 -- the refusals of bytes that are no image, as they are printed
 abbrev pub image_kind_name : ImageKind → List ℕ

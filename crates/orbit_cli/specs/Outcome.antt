@@ -1,24 +1,27 @@
 -- What a command comes to: by its status, what stands on the sinks, what the folder holds, and why.
-use Rattle.std.specs.Prelude.{◌≡◌, ℕ, ◌^◌, ◌⊎◌, List, Option, Some, None, Err}
+use Rattle.std.specs.Prelude.{◌≡◌, ℕ, ◌^◌, ◌⊎◌, List, Option, Some, None, Ok, Err}
 use Rattle.t_ports.specs.declared.ports.Folder.{Ghosts as FolderOf}
 use Rattle.t_ports.specs.declared.ports.Sink.{Ghosts as SinkOf}
 use Rattle.t_base.specs.declared.basics.Span.{Span}
 use Rattle.t_base.specs.Lines.{line_of, column_of}
-use Rattle.t_reader.specs.declared.fault.ReadKind.{ReadKind}
 use Rattle.t_reader.specs.declared.fault.ReadFault.TheVariants as faults
-use Rattle.t_reader.specs.Grammar.{Tree, Reads, FirstFault}
+use Rattle.t_reader.specs.Grammar.{FirstFault}
+use Rattle.t_core.specs.declared.forms.UnitCore.{UnitCore}
+use Rattle.t_core.specs.declared.limiting.LimitFault.{LimitFault}
+use Rattle.t_core.specs.Limits.{limit_of}
 use Rattle.image_file.specs.declared.fault.ImageKind.{ImageKind}
 use Rattle.image_file.specs.Grammar.{Parts, IsImageOf}
 use Rattle.image_file.specs.Reading.{image_at}
-use Rattle.orbit_build.specs.Grammar.{ReadsWithoutUnit}
-use Rattle.orbit_build.specs.Faithful.{Faithful}
+use Rattle.orbit_build.specs.Faithful.{HasCore, HasRefusal, IsOver, IsUnbuilt, IsBuilt, Faithful}
+use Rattle.orbit_cli.specs.declared.refusal.SourceKind.{SourceKind}
+use Rattle.orbit_cli.specs.declared.refusal.SourceKind.TheVariants as source
 use Rattle.orbit_cli.specs.declared.words.Bounds.{Bounds}
 use Rattle.orbit_cli.specs.declared.status.Status.{Status}
 use Rattle.orbit_cli.specs.declared.status.Status.TheVariants as status
 use Rattle.orbit_cli.specs.Words.{Command, Compile, Run, Go, Check, Listing, command_of}
-use Rattle.orbit_cli.specs.Lines.{usage_line, source_line, bad_image_line, unread_line, long_line, write_line, memory_line, unbuilt_line}
+use Rattle.orbit_cli.specs.Lines.{usage_line, source_line, over_line, bad_image_line, unread_line, long_line, write_line, memory_line, unbuilt_line}
 use Rattle.orbit_cli.specs.Changes.{Change, IsIdle, Says, IsCut, FetchFailed, KeepFailed, IsUnchanged, Keeps, Gives, HasMore, GivesSuch}
-use Rattle.orbit_cli.specs.Answer.{Answer, answer, listing_answer}
+use Rattle.orbit_cli.specs.Answer.{Answer, answer, listing_answer, counts_answer}
 
 -- most bytes of a text, and of an image
 abbrev pub most_text : ℕ
@@ -29,23 +32,26 @@ most_image = 2 ^ 29
 
 -- ---- texts
 
--- the first fault of the text is of this kind, and stands at this line and column
-pub record HasFault (kind : ReadKind) (line column : ℕ) (text : List ℕ) : Type 0 where
+-- this is the first fault of the text, or the text has no fault and this is the first refusal of its forms
+abbrev pub IsFirst : List ℕ → SourceKind → Span → Type 0
+IsFirst text (source.Read kind) span = FirstFault text (faults.Fault kind span)
+IsFirst text (source.Syntax kind) span = HasRefusal text kind span
+
+-- that stands at this line and column
+pub record HasFault (kind : SourceKind) (line column : ℕ) (text : List ℕ) : Type 0 where
   pub span : Span
-  pub first : FirstFault text (faults.Fault kind span)
+  pub first : IsFirst text kind span
   pub line_is : line ≡ line_of text span.start
   pub column_is : column ≡ column_of text span.start
 
-abbrev pub HasReading : List ℕ → Type 0
-HasReading text = (trees : List Tree) × Reads text trees
-
 abbrev pub HasImage : List ℕ → Type 0
-HasImage text = (bytes : List ℕ) × Faithful text bytes
+HasImage text = (bytes : List ℕ) × IsBuilt text × Faithful text bytes
 
 -- the bytes are an image of the text that the folder has under the one name, and were kept under the other
 pub record IsCompiled {F : Type 0} (f : FolderOf F) (folder : Change F) (src img bytes : List ℕ) : Type 0 where
   pub text : List ℕ
   pub given : Gives f folder most_text src text
+  pub built : IsBuilt text
   pub faithful : Faithful text bytes
   pub kept : Keeps f folder img bytes
 
@@ -58,15 +64,15 @@ module _ {F E : Type 0} (f : FolderOf F) (e : SinkOf E) (folder : Change F) (err
     pub noted : Says e err line
     pub why : cause
 
-  -- by the status, why a text came to nothing. For some texts there is no answer yet.
-  abbrev pub TextRefused : (List ℕ → Type 0) → List ℕ → Status → Type 0
-  TextRefused IsUnbuilt src status.FetchFault = IsRefused (unread_line src) (FetchFailed f folder)
-  TextRefused IsUnbuilt src status.LongFile = IsRefused (long_line src) (HasMore f folder most_text src)
-  TextRefused IsUnbuilt src status.SourceRefused =
-      (kind : ReadKind) × (line : ℕ) × (column : ℕ) × IsRefused (source_line src line column kind) (GivesSuch f folder most_text src (HasFault kind line column))
-  TextRefused IsUnbuilt src status.Unbuilt = IsRefused unbuilt_line (GivesSuch f folder most_text src IsUnbuilt)
-  TextRefused IsUnbuilt src status.Memory = IsRefused memory_line (Unit {0})
-  TextRefused IsUnbuilt src _ = ⊥
+  -- by the status, why a text came to nothing
+  abbrev pub TextRefused : List ℕ → Status → Type 0
+  TextRefused src status.FetchFault = IsRefused (unread_line src) (FetchFailed f folder)
+  TextRefused src status.LongFile = IsRefused (long_line src) (HasMore f folder most_text src)
+  TextRefused src status.SourceRefused =
+      (kind : SourceKind) × (line : ℕ) × (column : ℕ) × IsRefused (source_line src line column kind) (GivesSuch f folder most_text src (HasFault kind line column))
+  TextRefused src status.Limit = (fault : LimitFault) × IsRefused (over_line src fault) (GivesSuch f folder most_text src (λ text. IsOver text fault))
+  TextRefused src status.Memory = IsRefused memory_line (Unit {0})
+  TextRefused src _ = ⊥
 
   -- by the status, why an image came to nothing
   abbrev pub ImageRefused : List ℕ → Status → Type 0
@@ -77,15 +83,12 @@ module _ {F E : Type 0} (f : FolderOf F) (e : SinkOf E) (folder : Change F) (err
   ImageRefused img status.Memory = IsRefused memory_line (Unit {0})
   ImageRefused img _ = ⊥
 
-  -- of `compile`, which puts nothing to out
+  -- of `compile`, which puts nothing to out. Some texts that aren't refused are not built yet.
   abbrev pub CompileOutcome : List ℕ → List ℕ → Status → Type 0
   CompileOutcome src img status.Done = IsIdle err × ((bytes : List ℕ) × IsCompiled f folder src img bytes)
   CompileOutcome src img status.WriteFault = IsRefused write_line (KeepFailed f folder × GivesSuch f folder most_text src HasImage)
-  CompileOutcome src img ended = TextRefused ReadsWithoutUnit src ended
-
-  -- of `check`, which puts nothing to out and has no answer yet for a text without a fault
-  abbrev pub CheckOutcome : List ℕ → Status → Type 0
-  CheckOutcome src ended = TextRefused HasReading src ended
+  CompileOutcome src img status.Unbuilt = IsRefused unbuilt_line (GivesSuch f folder most_text src IsUnbuilt)
+  CompileOutcome src img ended = TextRefused src ended
 
 -- ---- what it does to out
 
@@ -103,6 +106,22 @@ module _ {S E : Type 0} (o : SinkOf S) (e : SinkOf E) (out : Change S) (err : Ch
     pub noted : Says e err write_line
 
 module _ {F S E : Type 0} (f : FolderOf F) (o : SinkOf S) (e : SinkOf E) (folder : Change F) (out : Change S) (err : Change E) where
+  -- the folder has a text under the name, whose core is within the limits, and of the core such an answer is due
+  pub record OfCore (src : List ℕ) (IsDue : UnitCore → Type 0) : Type 0 where
+    pub text : List ℕ
+    pub unit : UnitCore
+    pub given : Gives f folder most_text src text
+    pub core : HasCore text unit
+    pub within : limit_of unit ≡ Ok tt
+    pub unchanged : IsUnchanged f folder
+    pub due : IsDue unit
+
+  -- of `check`
+  abbrev pub CheckOutcome : List ℕ → Status → Type 0
+  CheckOutcome src status.Done = OfCore src (λ unit. IsAnswered o e out err (counts_answer unit) status.Done)
+  CheckOutcome src status.WriteFault = OfCore src (λ unit. IsUnwritten o e out err (counts_answer unit))
+  CheckOutcome src ended = IsIdle out × TextRefused f e folder err src ended
+
   -- the folder has an image under the name, of which such an answer is due
   pub record OfImage (img : List ℕ) (IsDue : Parts → Type 0) : Type 0 where
     pub bytes : List ℕ
@@ -169,7 +188,7 @@ module _ {F S E : Type 0} (f : FolderOf F) (o : SinkOf S) (e : SinkOf E) (folder
   CommandOutcome (Some (Compile src img)) ended = IsIdle out × CompileOutcome f e folder err src img ended
   CommandOutcome (Some (Run img bounds)) ended = RunOutcome img bounds ended
   CommandOutcome (Some (Go src img bounds)) ended = GoOutcome src img bounds ended
-  CommandOutcome (Some (Check src)) ended = IsIdle out × CheckOutcome f e folder err src ended
+  CommandOutcome (Some (Check src)) ended = CheckOutcome src ended
   CommandOutcome (Some (Listing img)) ended = ListOutcome img ended
   CommandOutcome None ended = IsMisused ended
 

@@ -1,22 +1,29 @@
 -- What the parts of a command come to.
-use Rattle.std.specs.Prelude.{◌≡◌, ℕ, ◌⊎◌, List, Err}
+use Rattle.std.specs.Prelude.{◌≡◌, ℕ, ◌⊎◌, List, Ok, Err}
+use Rattle.t_base.specs.Lines.{line_of, column_of}
+use Rattle.t_core.specs.declared.forms.UnitCore.{UnitCore}
+use Rattle.t_core.specs.Counts.{weight_of}
+use Rattle.t_core.specs.Limits.{limit_of}
 use Rattle.t_ports.specs.declared.ports.Folder.{Ghosts as FolderOf}
 use Rattle.t_ports.specs.declared.ports.Sink.{Ghosts as SinkOf}
 use Rattle.m68020_step.specs.declared.machine.Sizes.{Sizes}
 use Rattle.image_file.specs.Grammar.{Parts, IsImageOf}
 use Rattle.image_file.specs.Reading.{image_at}
-use Rattle.orbit_build.specs.Grammar.{ReadsWithoutUnit}
-use Rattle.orbit_build.specs.Faithful.{Faithful}
+use Rattle.orbit_build.specs.declared.fault.BuildFault.{BuildFault}
+use Rattle.orbit_build.specs.declared.fault.BuildFault.TheVariants as build_fault
+use Rattle.orbit_build.specs.Faithful.{HasCore, IsOver, IsUnbuilt, IsBuilt, Faithful}
 use Rattle.orbit_monitor.specs.Answering.{Loaded, fresh}
 use Rattle.orbit_tools.specs.Listing.{listing_of}
 use Rattle.orbit_cli.specs.declared.status.Status.{Status}
 use Rattle.orbit_cli.specs.declared.status.Status.TheVariants as status
+use Rattle.orbit_cli.specs.declared.prepare.Counts.{Counts}
+use Rattle.orbit_cli.specs.declared.refusal.SourceKind.TheVariants as source
 use Rattle.orbit_cli.specs.declared.refusal.Refusal.{Refusal}
 use Rattle.orbit_cli.specs.declared.refusal.Refusal.TheVariants as refusal
-use Rattle.orbit_cli.specs.Lines.{source_line, bad_image_line, unread_line, long_line, memory_line, unbuilt_line, write_line}
+use Rattle.orbit_cli.specs.Lines.{source_line, over_line, bad_image_line, unread_line, long_line, memory_line, unbuilt_line, write_line}
 use Rattle.orbit_cli.specs.Changes.{Change, FetchFailed, KeepFailed, Gives, HasMore, GivesSuch}
-use Rattle.orbit_cli.specs.Answer.{Answer}
-use Rattle.orbit_cli.specs.Outcome.{most_text, most_image, HasFault, HasReading, HasImage, IsAnswered, IsUnwritten}
+use Rattle.orbit_cli.specs.Answer.{Answer, most_nodes}
+use Rattle.orbit_cli.specs.Outcome.{most_text, most_image, HasFault, HasImage, IsAnswered, IsUnwritten}
 
 -- ---- refusals
 
@@ -24,6 +31,7 @@ abbrev pub refusal_line : List ℕ → Refusal → List ℕ
 refusal_line name refusal.Unread = unread_line name
 refusal_line name refusal.Long = long_line name
 refusal_line name (refusal.Source kind line column) = source_line name line column kind
+refusal_line name (refusal.Over fault) = over_line name fault
 refusal_line name (refusal.Bad kind at) = bad_image_line name kind at
 refusal_line name refusal.Unbuilt = unbuilt_line
 refusal_line name refusal.Unkept = write_line
@@ -33,34 +41,57 @@ abbrev pub refusal_status : Refusal → Status
 refusal_status refusal.Unread = status.FetchFault
 refusal_status refusal.Long = status.LongFile
 refusal_status (refusal.Source kind line column) = status.SourceRefused
+refusal_status (refusal.Over fault) = status.Limit
 refusal_status (refusal.Bad kind at) = status.BadImage
 refusal_status refusal.Unbuilt = status.Unbuilt
 refusal_status refusal.Unkept = status.WriteFault
 refusal_status refusal.Memory = status.Memory
 
--- why this text is refused
+-- the refusal that a fault of a build is
+abbrev pub refusal_of : List ℕ → BuildFault → Refusal
+refusal_of text (build_fault.Read kind span) = refusal.Source (source.Read kind) (line_of text span.start) (column_of text span.start)
+refusal_of text (build_fault.Syntax kind span) = refusal.Source (source.Syntax kind) (line_of text span.start) (column_of text span.start)
+refusal_of text (build_fault.Limit fault) = refusal.Over fault
+refusal_of text build_fault.Unbuilt = refusal.Unbuilt
+refusal_of text build_fault.Memory = refusal.Memory
+
+-- why a text that may be such is refused
 abbrev pub TextCause : (List ℕ → Type 0) → List ℕ → Refusal → Type 0
-TextCause IsUnbuilt text (refusal.Source kind line column) = HasFault kind line column text
-TextCause IsUnbuilt text refusal.Unbuilt = IsUnbuilt text
-TextCause IsUnbuilt text refusal.Memory = Unit {0}
-TextCause IsUnbuilt text _ = ⊥
+TextCause IsSuch text (refusal.Source kind line column) = HasFault kind line column text
+TextCause IsSuch text (refusal.Over fault) = IsOver text fault
+TextCause IsSuch text refusal.Unbuilt = IsSuch text
+TextCause IsSuch text refusal.Memory = Unit {0}
+TextCause IsSuch text _ = ⊥
+
+-- no text
+abbrev pub NoText : List ℕ → Type 0
+NoText text = ⊥
+
+-- the text has a core within the limits, and these are its counts
+pub record IsCounted (text : List ℕ) (counts : Counts) : Type 0 where
+  pub unit : UnitCore
+  pub core : HasCore text unit
+  pub within : limit_of unit ≡ Ok tt
+  pub nodes_are : counts.nodes ≡ most_nodes unit
+  pub weight_is : counts.weight ≡ weight_of unit
 
 module _ {F : Type 0} (f : FolderOf F) (folder : Change F) where
   -- why the text of this name is refused, or its image isn't kept
   abbrev pub SourceCause : (List ℕ → Type 0) → Type 0 → List ℕ → Refusal → Type 0
-  SourceCause IsUnbuilt unkept src refusal.Unread = FetchFailed f folder
-  SourceCause IsUnbuilt unkept src refusal.Long = HasMore f folder most_text src
-  SourceCause IsUnbuilt unkept src (refusal.Source kind line column) = GivesSuch f folder most_text src (HasFault kind line column)
-  SourceCause IsUnbuilt unkept src (refusal.Bad kind at) = ⊥
-  SourceCause IsUnbuilt unkept src refusal.Unbuilt = GivesSuch f folder most_text src IsUnbuilt
-  SourceCause IsUnbuilt unkept src refusal.Unkept = unkept
-  SourceCause IsUnbuilt unkept src refusal.Memory = Unit {0}
+  SourceCause IsSuch unkept src refusal.Unread = FetchFailed f folder
+  SourceCause IsSuch unkept src refusal.Long = HasMore f folder most_text src
+  SourceCause IsSuch unkept src (refusal.Source kind line column) = GivesSuch f folder most_text src (HasFault kind line column)
+  SourceCause IsSuch unkept src (refusal.Over fault) = GivesSuch f folder most_text src (λ text. IsOver text fault)
+  SourceCause IsSuch unkept src (refusal.Bad kind at) = ⊥
+  SourceCause IsSuch unkept src refusal.Unbuilt = GivesSuch f folder most_text src IsSuch
+  SourceCause IsSuch unkept src refusal.Unkept = unkept
+  SourceCause IsSuch unkept src refusal.Memory = Unit {0}
 
   abbrev pub CompileCause : List ℕ → Refusal → Type 0
-  CompileCause src r = SourceCause ReadsWithoutUnit (KeepFailed f folder × GivesSuch f folder most_text src HasImage) src r
+  CompileCause src r = SourceCause IsUnbuilt (KeepFailed f folder × GivesSuch f folder most_text src HasImage) src r
 
   abbrev pub CheckCause : List ℕ → Refusal → Type 0
-  CheckCause src r = SourceCause HasReading ⊥ src r
+  CheckCause src r = SourceCause NoText ⊥ src r
 
   -- why the image of this name is refused
   abbrev pub ImageCause : List ℕ → Refusal → Type 0
@@ -82,7 +113,14 @@ module _ {F : Type 0} (f : FolderOf F) (folder : Change F) where
   pub record IsTranslated (src bytes : List ℕ) : Type 0 where
     pub text : List ℕ
     pub given : Gives f folder most_text src text
+    pub built : IsBuilt text
     pub faithful : Faithful text bytes
+
+  -- the text of this name has these counts
+  pub record IsFetchedCounts (src : List ℕ) (counts : Counts) : Type 0 where
+    pub text : List ℕ
+    pub given : Gives f folder most_text src text
+    pub counted : IsCounted text counts
 
   -- the folder has this image under the name
   pub record IsFetched (img : List ℕ) (image : Parts) : Type 0 where

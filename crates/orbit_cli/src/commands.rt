@@ -6,9 +6,9 @@ ghost use Rattle.orbit_cli.specs.Command.{AreSizes};
 ghost use Rattle.orbit_cli.specs.Outcome.{CompileOutcome, CheckOutcome, RunOutcome, ListOutcome, GoOutcome};
 
 use crate::image::{fetch_listing, load_image};
-use crate::prepare::{check_text, compile_and_keep, keep, prepare};
+use crate::prepare::{compile_and_keep, fetch_counts, keep, prepare};
 use crate::refusal::refuse;
-use crate::report::{finish, print};
+use crate::report::{finish, print, print_counts};
 use crate::status::Status;
 use crate::words::Bounds;
 use std::alloc::Global;
@@ -54,12 +54,20 @@ pub fn compile_and_run<F: Folder, S: Sink, E: Sink>(
     }
 }
 
-/// Checks a text.
-pub fn check<F: Folder, E: Sink>(alloc: Global, src: &str, folder: &mut F, err: &mut E) -> Status
-    ensures { CheckOutcome F.Folder E.Sink (change folder.old folder.new) (change err.old err.new) src.now result }
+/// Checks a text and puts its counts.
+pub fn check<F: Folder, S: Sink, E: Sink>(
+    alloc: Global,
+    src: &str,
+    folder: &mut F,
+    out: &mut S,
+    err: &mut E,
+) -> Status
+    ensures { CheckOutcome F.Folder S.Sink E.Sink (change folder.old folder.new) (change out.old out.new) (change err.old err.new) src.now result }
 {
-    let refusal = check_text(alloc, src, folder);
-    refuse(src, refusal, err)
+    match fetch_counts(alloc, src, folder) {
+        Ok(counts) => print_counts(counts, out, err),
+        Err(refusal) => refuse(src, refusal, err),
+    }
 }
 
 /// Runs an image.

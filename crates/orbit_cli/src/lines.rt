@@ -4,15 +4,18 @@ ghost use Rattle.std.specs.Prelude.{◌≡◌, ◌<◌, OnOk, OnErr};
 ghost use Rattle.std.specs.Fmt.{signed_decimal};
 ghost use Rattle.t_ports.specs.Causes.{HasCause};
 ghost use Rattle.t_ports.specs.Pieces.{TookFront};
-ghost use Rattle.orbit_cli.specs.Lines.{unnamed_text, character_text, kind_text, line_end, value_line, fault_words, operand_of, fault_line, region_name, full_line, limit_line, stop_name, hex_digit, hex_address, stop_line, read_kind_name, located_line, source_line, image_kind_name, place_line, bad_image_line, unread_line, long_line};
+ghost use Rattle.orbit_cli.specs.Lines.{unnamed_text, character_text, kind_text, line_end, value_line, fault_words, operand_of, fault_line, region_name, full_line, limit_line, stop_name, hex_digit, hex_address, stop_line, read_kind_name, syntax_kind_name, source_kind_name, located_line, source_line, limit_name, limit_count, limit_number, count_line, over_line, counts_line, image_kind_name, place_line, bad_image_line, unread_line, long_line};
 
+use crate::refusal::SourceKind;
 use image_file::ImageKind;
 use itoa::Buffer;
 use m68020_step::Why;
 use t_base::Fault;
+use t_core::LimitFault;
 use t_ports::pieces::put_all;
 use t_ports::ports::{Failed, Sink};
 use t_reader::ReadKind;
+use t_rows::SyntaxKind;
 
 // What ends the last line of output whose last byte is this one.
 fn end_of_line<'a>(last: Option<u8>) -> &'a [u8]
@@ -237,6 +240,30 @@ fn name_of_read_kind<'a>(kind: ReadKind) -> &'a [u8]
     }
 }
 
+fn name_of_syntax_kind<'a>(kind: SyntaxKind) -> &'a [u8]
+    ensures { result.now ≡ syntax_kind_name kind }
+{
+    match kind {
+        SyntaxKind::BadForm => b"S1 BadForm",
+        SyntaxKind::Twice => b"S2 Twice",
+        SyntaxKind::ParamTwice => b"S3 ParamTwice",
+        SyntaxKind::NotOperation => b"S4 NotOperation",
+        SyntaxKind::NotSettable => b"S5 NotSettable",
+        SyntaxKind::NotTopLevel => b"S6 NotTopLevel",
+        SyntaxKind::ConstantSet => b"S7 ConstantSet",
+        SyntaxKind::FreeName => b"S8 FreeName",
+    }
+}
+
+fn name_of_source_kind<'a>(kind: SourceKind) -> &'a [u8]
+    ensures { result.now ≡ source_kind_name kind }
+{
+    match kind {
+        SourceKind::Read(kind) => name_of_read_kind(kind),
+        SourceKind::Syntax(kind) => name_of_syntax_kind(kind),
+    }
+}
+
 // Puts the line of a refusal at a line and column.
 fn put_located<S: Sink>(
     sink: &mut S,
@@ -263,13 +290,13 @@ fn put_located<S: Sink>(
     )
 }
 
-/// Puts the line of a text with a fault of the grammar.
+/// Puts the line of a text with a fault of the grammar, or with a form that is refused.
 pub fn put_source_fault<S: Sink>(
     sink: &mut S,
     src: &str,
     line: u32,
     column: u32,
-    kind: ReadKind,
+    kind: SourceKind,
 ) -> Result<(), Failed>
     ensures ok { OnOk result (S.took sink.old (source_line src.now line column kind) sink.new) }
     ensures cause { HasCause (S.faults sink.old) (S.faults sink.new) result }
@@ -278,7 +305,97 @@ pub fn put_source_fault<S: Sink>(
     let mut column_text = Buffer::new();
     let line = line_text.format(line);
     let column = column_text.format(column);
-    put_located(sink, src, line, column, name_of_read_kind(kind))
+    put_located(sink, src, line, column, name_of_source_kind(kind))
+}
+
+fn name_of_limit<'a>(fault: LimitFault) -> &'a [u8]
+    ensures { result.now ≡ limit_name fault }
+{
+    match fault {
+        LimitFault::FormNodes { .. } => b"L1 FormNodes",
+        LimitFault::UnitWeight { .. } => b"L2 UnitWeight",
+        LimitFault::Params { .. } => b"L3 Params",
+    }
+}
+
+fn count_of_limit(fault: LimitFault) -> u64
+    ensures { result ≡ limit_count fault }
+{
+    match fault {
+        LimitFault::FormNodes { count, .. } => count,
+        LimitFault::UnitWeight { count } => count,
+        LimitFault::Params { count, .. } => count,
+    }
+}
+
+fn number_of_limit(fault: LimitFault) -> u64
+    ensures { result ≡ limit_number fault }
+{
+    match fault {
+        LimitFault::FormNodes { .. } => 2000,
+        LimitFault::UnitWeight { .. } => 4194304,
+        LimitFault::Params { .. } => 20,
+    }
+}
+
+// Puts the line of a count that is over its limit.
+fn put_count<S: Sink>(
+    sink: &mut S,
+    src: &str,
+    limit: &[u8],
+    count: &str,
+    number: &str,
+) -> Result<(), Failed>
+    ensures ok { OnOk result (S.took sink.old (count_line src.now limit.now count.now number.now) sink.new) }
+    ensures cause { HasCause (S.faults sink.old) (S.faults sink.new) result }
+{
+    put_all(
+        sink,
+        &[
+            src.as_bytes(),
+            b": ",
+            limit,
+            b" ",
+            count.as_bytes(),
+            b" over ",
+            number.as_bytes(),
+            b"\n",
+        ],
+    )
+}
+
+/// Puts the line of a text that is over a limit.
+pub fn put_over<S: Sink>(sink: &mut S, src: &str, fault: LimitFault) -> Result<(), Failed>
+    ensures ok { OnOk result (S.took sink.old (over_line src.now fault) sink.new) }
+    ensures cause { HasCause (S.faults sink.old) (S.faults sink.new) result }
+{
+    let mut count_text = Buffer::new();
+    let mut number_text = Buffer::new();
+    let count = count_text.format(count_of_limit(fault));
+    let number = number_text.format(number_of_limit(fault));
+    put_count(sink, src, name_of_limit(fault), count, number)
+}
+
+/// Puts the line of a text's counts: the nodes of its largest form, and its weight.
+pub fn put_counts<S: Sink>(sink: &mut S, nodes: u32, weight: u64) -> Result<(), Failed>
+    ensures ok { OnOk result (S.took sink.old (counts_line nodes weight) sink.new) }
+    ensures part { OnErr result (TookFront S.took sink.old (counts_line nodes weight) sink.new) }
+    ensures cause { HasCause (S.faults sink.old) (S.faults sink.new) result }
+{
+    let mut nodes_text = Buffer::new();
+    let mut weight_text = Buffer::new();
+    let nodes = nodes_text.format(nodes);
+    let weight = weight_text.format(weight);
+    put_all(
+        sink,
+        &[
+            b"nodes ",
+            nodes.as_bytes(),
+            b" weight ",
+            weight.as_bytes(),
+            b"\n",
+        ],
+    )
 }
 
 fn name_of_image_kind<'a>(kind: ImageKind) -> &'a [u8]

@@ -1,25 +1,24 @@
-//! From the name of a text to its image: fetched, translated, loaded and kept.
+//! From the name of a text to its image: fetched, translated, loaded and kept. And from the name of a text to its counts.
 
 ghost use Rattle.std.specs.Prelude.{◌≡◌, ◌≤◌, ◌^◌, ℕ, List, IsTrue, length, IfOk, IfErr, OnOk, OnErr};
 ghost use Rattle.t_base.specs.Lines.{line_of, column_of};
 ghost use Rattle.image_file.specs.Grammar.{Parts, IsImageOf};
 ghost use Rattle.m68020_step.specs.Boot.{is_size};
-ghost use Rattle.orbit_build.specs.Faithful.{Faithful};
-ghost use Rattle.orbit_build.specs.Grammar.{ReadsWithoutUnit};
+ghost use Rattle.orbit_build.specs.Faithful.{IsUnbuilt, IsBuilt, Faithful};
 ghost use Rattle.orbit_cli.specs.Changes.{change, Gives, IsUnchanged, Keeps};
 ghost use Rattle.orbit_cli.specs.Command.{AreSizes};
-ghost use Rattle.orbit_cli.specs.Outcome.{most_text, HasReading, IsCompiled};
-ghost use Rattle.orbit_cli.specs.Parts.{TextCause, CompileCause, CheckCause, KeepCause, IsTranslated, IsProgram};
+ghost use Rattle.orbit_cli.specs.Outcome.{most_text, IsCompiled};
+ghost use Rattle.orbit_cli.specs.Parts.{refusal_of, TextCause, NoText, CompileCause, CheckCause, KeepCause, IsTranslated, IsProgram, IsCounted, IsFetchedCounts};
 
-use crate::refusal::Refusal;
+use crate::refusal::{Refusal, SourceKind};
 use image_file::read_image;
 use m68020_step::Sizes;
-use orbit_build::{BuildFault, compile};
+use orbit_build::{BuildFault, compile, read_core};
 use orbit_monitor::{Boot, boot};
 use std::alloc::Global;
 use t_base::{Memory, Span, place};
+use t_core::{limits, weight};
 use t_ports::ports::{FetchFault, Folder, KeepFault};
-use t_reader::{ReadFault, ReadKind, read_unit};
 
 /// Most bytes of a text.
 const MAX_TEXT: usize = 0x10_0000;
@@ -29,6 +28,13 @@ const MAX_TEXT: usize = 0x10_0000;
 pub struct Ready {
     pub bytes: Vec<u8>,
     pub boot: Boot,
+}
+
+/// The nodes of the largest form of a text's core, and the weight of the core.
+#[derive(Clone, Copy, Debug, PartialEq, Eq)]
+pub struct Counts {
+    pub nodes: u32,
+    pub weight: u64,
 }
 
 fn fetch_text<F: Folder>(alloc: Global, src: &str, folder: &mut F) -> Result<Vec<u8>, Refusal>
@@ -46,8 +52,8 @@ fn fetch_text<F: Folder>(alloc: Global, src: &str, folder: &mut F) -> Result<Vec
     }
 }
 
-// A fault of the grammar, with its line and column.
-fn source_refusal(text: &[u8], kind: ReadKind, span: Span) -> Refusal
+// A fault of a text, with its line and column.
+fn source_refusal(text: &[u8], kind: SourceKind, span: Span) -> Refusal
     requires { length text.now ≤ 2 ^ 20 }
     ensures { result ≡ Refusal.Source kind (line_of text.now span.start) (column_of text.now span.start) }
 {
@@ -56,17 +62,30 @@ fn source_refusal(text: &[u8], kind: ReadKind, span: Span) -> Refusal
     Refusal::Source { kind, line, column }
 }
 
+// The refusal that a fault of a build is.
+fn refusal_of(text: &[u8], fault: BuildFault) -> Refusal
+    requires { length text.now ≤ 2 ^ 20 }
+    ensures { result ≡ refusal_of text.now fault }
+{
+    match fault {
+        BuildFault::Read { kind, span } => source_refusal(text, SourceKind::Read(kind), span),
+        BuildFault::Syntax { kind, span } => source_refusal(text, SourceKind::Syntax(kind), span),
+        BuildFault::Limit(fault) => Refusal::Over(fault),
+        BuildFault::Unbuilt => Refusal::Unbuilt,
+        BuildFault::Memory => Refusal::Memory,
+    }
+}
+
 // Makes the image of a text.
 fn translate(alloc: Global, text: &[u8]) -> Result<Vec<u8>, Refusal>
     requires { length text.now ≤ 2 ^ 20 }
     ensures faithful { IfOk result (λ bytes. Faithful text.now bytes.items) }
-    ensures refused { IfErr result (TextCause ReadsWithoutUnit text.now) }
+    ensures built { OnOk result (IsBuilt text.now) }
+    ensures refused { IfErr result (TextCause IsUnbuilt text.now) }
 {
     match compile(alloc, text) {
         Ok(bytes) => Ok(bytes),
-        Err(BuildFault::Read { kind, span }) => Err(source_refusal(text, kind, span)),
-        Err(BuildFault::Unbuilt) => Err(Refusal::Unbuilt),
-        Err(BuildFault::Memory) => Err(Refusal::Memory),
+        Err(fault) => Err(refusal_of(text, fault)),
     }
 }
 
@@ -147,25 +166,31 @@ pub fn compile_and_keep<F: Folder>(
     keep(alloc, img, &bytes, folder)
 }
 
-// Why a text is refused: its first fault, or else that it is not built yet.
-fn judge(alloc: Global, text: &[u8]) -> Refusal
+// Counts the core of a text.
+fn count(alloc: Global, text: &[u8]) -> Result<Counts, Refusal>
     requires { length text.now ≤ 2 ^ 20 }
-    ensures { TextCause HasReading text.now result }
+    ensures counted { IfOk result (IsCounted text.now) }
+    ensures refused { IfErr result (TextCause NoText text.now) }
 {
-    match read_unit(alloc, text) {
-        Ok(_) => Refusal::Unbuilt,
-        Err(ReadFault::Fault { kind, span }) => source_refusal(text, kind, span),
-        Err(ReadFault::Memory) => Refusal::Memory,
+    let unit = match read_core(alloc, text) {
+        Ok(unit) => unit,
+        Err(fault) => return Err(refusal_of(text, fault)),
+    };
+    match limits(&unit) {
+        Ok(()) => Ok(Counts {
+            nodes: unit.shared.size,
+            weight: weight(&unit),
+        }),
+        Err(fault) => Err(Refusal::Over(fault)),
     }
 }
 
-/// Fetches a text and checks it.
-pub fn check_text<F: Folder>(alloc: Global, src: &str, folder: &mut F) -> Refusal
+/// Fetches a text and counts its core.
+pub fn fetch_counts<F: Folder>(alloc: Global, src: &str, folder: &mut F) -> Result<Counts, Refusal>
     ensures same { IsUnchanged F.Folder (change folder.old folder.new) }
-    ensures refused { CheckCause F.Folder (change folder.old folder.new) src.now result }
+    ensures counted { IfOk result (IsFetchedCounts F.Folder (change folder.old folder.new) src.now) }
+    ensures refused { IfErr result (CheckCause F.Folder (change folder.old folder.new) src.now) }
 {
-    match fetch_text(alloc, src, folder) {
-        Ok(text) => judge(alloc, &text),
-        Err(refusal) => refusal,
-    }
+    let text = fetch_text(alloc, src, folder)?;
+    count(alloc, &text)
 }

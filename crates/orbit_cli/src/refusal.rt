@@ -4,12 +4,23 @@ ghost use Rattle.std.specs.Prelude.{◌≡◌};
 ghost use Rattle.orbit_cli.specs.Changes.{change, Says};
 ghost use Rattle.orbit_cli.specs.Parts.{refusal_line, refusal_status};
 
-use crate::lines::{put_bad_image, put_long, put_source_fault, put_unread};
+use crate::lines::{put_bad_image, put_long, put_over, put_source_fault, put_unread};
 use crate::status::Status;
 use image_file::ImageKind;
 use t_base::Memory;
+use t_core::LimitFault;
 use t_ports::ports::Sink;
 use t_reader::ReadKind;
+use t_rows::SyntaxKind;
+
+/// What a text is refused for.
+#[derive(Clone, Copy, Debug, PartialEq, Eq)]
+pub enum SourceKind {
+    /// A fault of the grammar.
+    Read(ReadKind),
+    /// A rule that a form breaks.
+    Syntax(SyntaxKind),
+}
 
 /// Why nothing comes of a file.
 #[derive(Clone, Copy, Debug, PartialEq, Eq)]
@@ -18,12 +29,14 @@ pub enum Refusal {
     Unread,
     /// It has more bytes than are taken.
     Long,
-    /// Its text has a fault of the grammar: its kind, and the line and column where it stands, from 1.
+    /// Its text has a fault of the grammar, or a form that is refused: which, and the line and column where it stands, from 1.
     Source {
-        kind: ReadKind,
+        kind: SourceKind,
         line: u32,
         column: u32,
     },
+    /// A count of its text is over this limit.
+    Over(LimitFault),
     /// Its bytes are no image: what fails first, and at which byte.
     Bad {
         kind: ImageKind,
@@ -65,6 +78,10 @@ pub fn refuse<E: Sink>(name: &str, refusal: Refusal, err: &mut E) -> Status
         Refusal::Source { kind, line, column } => {
             let _ = put_source_fault(err, name, line, column, kind);
             Status::SourceRefused
+        }
+        Refusal::Over(fault) => {
+            let _ = put_over(err, name, fault);
+            Status::Limit
         }
         Refusal::Bad { kind, at } => {
             let _ = put_bad_image(err, name, kind, at);

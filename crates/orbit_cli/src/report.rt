@@ -1,4 +1,4 @@
-//! What is put of an image: of its run, or its listing.
+//! What is put of an image, which is of its run or its listing, and of a text that is checked.
 
 ghost use Rattle.std.specs.Prelude.{◌≡◌, ◌<◌, [], get_or, OnOk, OnErr, length};
 ghost use Rattle.t_base.specs.declared.faults.Face.{Face};
@@ -6,15 +6,16 @@ ghost use Rattle.t_ports.specs.Causes.{HasCause};
 ghost use Rattle.t_ports.specs.Pieces.{TookFront};
 ghost use Rattle.orbit_monitor.specs.Observed.{shown_of};
 ghost use Rattle.orbit_monitor.specs.Answering.{FaceIsNamed};
-ghost use Rattle.orbit_cli.specs.Lines.{shown_text, value_line, write_line};
+ghost use Rattle.orbit_cli.specs.Lines.{shown_text, value_line, counts_line, write_line};
 ghost use Rattle.orbit_cli.specs.Answer.{full_status, answer_on, printed};
 ghost use Rattle.orbit_cli.specs.Changes.{change, Says};
 ghost use Rattle.orbit_cli.specs.Parts.{Reports};
 
 use crate::lines::{
-    kind_name, put_character_value, put_fault, put_full, put_limit, put_number_value, put_stop,
-    put_value,
+    kind_name, put_character_value, put_counts, put_fault, put_full, put_limit, put_number_value,
+    put_stop, put_value,
 };
+use crate::prepare::Counts;
 use crate::status::Status;
 use orbit_monitor::{Boot, End, run};
 use t_base::{Face, Name};
@@ -118,6 +119,16 @@ pub fn print<S: Sink, E: Sink>(text: &[u8], out: &mut S, err: &mut E) -> Status
     ensures { Reports S.Sink E.Sink (change out.old out.new) (change err.old err.new) (printed text.now) result }
 {
     match put_text(out, text) {
+        Ok(()) => Status::Done,
+        Err(_) => unwritten(err),
+    }
+}
+
+/// Puts the line of a text's counts, and reports whether it was put.
+pub fn print_counts<S: Sink, E: Sink>(counts: Counts, out: &mut S, err: &mut E) -> Status
+    ensures { Reports S.Sink E.Sink (change out.old out.new) (change err.old err.new) (printed (counts_line counts.nodes counts.weight)) result }
+{
+    match put_counts(out, counts.nodes, counts.weight) {
         Ok(()) => Status::Done,
         Err(_) => unwritten(err),
     }

@@ -44,7 +44,7 @@ pub fn orbit<F: Folder, S: Sink, E: Sink>(
         Some(Command::Go { src, img, bounds }) => {
             compile_and_run(alloc, src, img, bounds, folder, out, err)
         }
-        Some(Command::Check { src }) => check(alloc, src, folder, err),
+        Some(Command::Check { src }) => check(alloc, src, folder, out, err),
         Some(Command::List { img }) => list_image(alloc, img, folder, out, err),
     }
 }

@@ -112,22 +112,17 @@ fn four_hundred_and_one_open_parentheses(rt: HostRuntime) -> Result<(), Fail> {
     check_refused(&rt, alloc, &text, b"a.t:1:401: R8 TooDeep\n")
 }
 
-/// The words of a command on a text that has no answer yet, and the text.
-static UNBUILT: [(&[&str], &[u8]); 5] = [
-    (&["check", "a.t"], b""),
-    (&["check", "a.t"], b"(+ 40 2)"),
-    (&["check", "a.t"], b"(if)"),
-    (&["check", "a.t"], b"; nothing\n"),
-    (&["compile", "a.t", "a.img"], b"(- 1 2)"),
-];
+/// Texts that are not refused, each with a defining form, or a node that is neither a fixnum nor a sum.
+static UNBUILT: [&[u8]; 4] = [b"(- 1 2)", b"(+ 1 (car 2))", b"t", b"(define x 1) 2"];
 
 #[test]
-fn texts_that_have_no_answer_yet(rt: HostRuntime) -> Result<(), Fail> {
+fn texts_that_are_not_built_yet(rt: HostRuntime) -> Result<(), Fail> {
     let alloc = rt.alloc();
+    let compile = ["compile", "a.t", "a.img"];
     let line = b"not built yet\n";
-    for (words, text) in UNBUILT {
+    for text in UNBUILT {
         let mut folder = folder_of(alloc, "a.t", text, &[])?;
-        check(&rt, alloc, words, &mut folder, line, Status::Unbuilt)?;
+        check(&rt, alloc, &compile, &mut folder, line, Status::Unbuilt)?;
         assert_eq!(rt; has_image(alloc, &mut folder), false);
     }
     Ok(())

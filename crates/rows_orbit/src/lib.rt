@@ -19,6 +19,8 @@ mod long;
 #[cfg(test)]
 mod outside;
 #[cfg(test)]
+mod profile;
+#[cfg(test)]
 mod rows;
 #[cfg(test)]
 mod usage;

@@ -65,16 +65,28 @@ fn a_form_of_two_thousand_literals_and_sums(rt: HostRuntime) -> Result<(), Fail>
     check(&rt, alloc, &most, b"value 1000\n", b"", Status::Done)?;
     let mut over = Vec::new(alloc);
     put_three(&mut over, 332, 333, 333)?;
-    check(&rt, alloc, &over, b"", b"not built yet\n", Status::Unbuilt)
+    let line = b"a.t: L1 FormNodes 2001 over 2000\n";
+    check(&rt, alloc, &over, b"", line, Status::Limit)
 }
 
 #[test]
 fn a_text_of_the_most_bytes(rt: HostRuntime) -> Result<(), Fail> {
     let alloc = rt.alloc();
+    let mut text = vec![in alloc; b' '; 0xF_FFF9]?;
+    text.extend_from_slice(b"(+ 1 2)")?;
+    assert_eq!(rt; text.len(), 0x10_0000);
+    check(&rt, alloc, &text, b"value 3\n", b"", Status::Done)
+}
+
+#[test]
+fn a_text_of_the_most_sums(rt: HostRuntime) -> Result<(), Fail> {
+    let alloc = rt.alloc();
+    // Each form has three nodes and weighs 121.
     let mut text = Vec::new(alloc);
     for _ in 0..0x2_0000 {
         text.extend_from_slice(b"(+ 1 2)\n")?;
     }
     assert_eq!(rt; text.len(), 0x10_0000);
-    check(&rt, alloc, &text, b"value 3\n", b"", Status::Done)
+    let line = b"a.t: L2 UnitWeight 15859712 over 4194304\n";
+    check(&rt, alloc, &text, b"", line, Status::Limit)
 }

@@ -36,7 +36,7 @@ fn unbuilt(text: &'static [u8]) -> Row {
     }
 }
 
-static VALUES: [(&[u8], &[u8]); 15] = [
+static VALUES: [(&[u8], &[u8]); 19] = [
     (b"(+ 40 2)", b"value 42\n"),
     (b"7 (+ 1 (+ 2 3))", b"value 6\n"),
     (b"", b"value ()\n"),
@@ -52,6 +52,10 @@ static VALUES: [(&[u8], &[u8]); 15] = [
     (b"0000000001", b"value 1\n"),
     (b"+5", b"value 5\n"),
     (b"1 ; one", b"value 1\n"),
+    (b"(+)", b"value 0\n"),
+    (b"(+ 1)", b"value 1\n"),
+    (b"(+ 1 2 3)", b"value 6\n"),
+    (b"'1", b"value 1\n"),
 ];
 
 #[test]
@@ -77,17 +81,14 @@ fn overflow_is_fault_seven(rt: HostRuntime) -> Result<(), Fail> {
     Ok(())
 }
 
-static UNBUILT: [&[u8]; 10] = [
+static UNBUILT: [&[u8]; 7] = [
     b"(- 1 2)",
-    b"--5",
     b"-",
-    b"(+ 1)",
-    b"(+ 1 2 3)",
     b"(+1 2)",
     b"()",
-    b"(+ 1 . 2)",
     b"\"a\"",
-    b"'1",
+    b"(+ 1 2) #\\a",
+    b"(define x 1)",
 ];
 
 #[test]

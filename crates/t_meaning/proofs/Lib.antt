@@ -1,5 +1,3 @@
-pub mod Whole
-pub mod More
 pub mod EscapeRounds
 pub mod EscapeMonotone
 pub mod EscapeBounds
@@ -11,4 +9,3 @@ pub mod CostLemmas
 pub mod CostRows
 pub mod CostTasks
 pub mod CatchLemmas
-pub mod SumUnits

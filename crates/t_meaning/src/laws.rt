@@ -2,22 +2,9 @@
 
 pub mod escape;
 
-ghost use Rattle.t_meaning.specs.Laws.{MoreBoundKeeps, MoreBoundWaits, EndsAtSomeBound};
 ghost use Rattle.t_meaning.specs.BoundLaws.{TaskOnlyAdds, TaskExtends, UnitExtends, MeaningIsSteady, MeaningWaits};
 ghost use Rattle.t_meaning.specs.CatchLaws.{TasksStayInside, UnitStaysInside, EndsAreProper};
 ghost use Rattle.t_meaning.specs.CostLaws.{UnmarkedTakesNoHeap, MarksChangeHeapAlone, MeaningIsAtMost};
-
-/// Where a unit has ended at a bound, every greater bound gives the same. Where it has not, a greater bound gives an output
-/// that this one's begins, and counts that are no less.
-pub fn more_bound_keeps()
-    ensures grows { MoreBoundKeeps }
-    ensures waits { MoreBoundWaits }
-{}
-
-/// Every unit ends at some bound.
-pub fn ends_at_some_bound()
-    ensures { EndsAtSomeBound }
-{}
 
 /// A task only adds to the output and to the counters of heap, work and depth. One that isn't out of its bound gives the same at
 /// every greater bound, and one that is has no more output and no higher counters than at a greater bound.

@@ -23,8 +23,8 @@ returns-in-Some-Go g c =
 
 pub returns-in-Some-Check : goal.returns-in-Some-Check
 returns-in-Some-Check g c =
-    subst (λ (command : Option Asked). CommandOutcome g.F.Folder g.S.Sink g.E.Sink (change c.args.folder.now c.check.new.folder) (change c.args.out.now c.args.out.now) (change c.args.err.now c.check.new.err) command c.check.result)
-    (ap (λ (held : Command). Some (view_of held)) (sym c.in-Some-Check.field-0-is) ∙ c.in-Some-Check.ensures.value) (refl, c.check.ensures)
+    subst (λ (command : Option Asked). CommandOutcome g.F.Folder g.S.Sink g.E.Sink (change c.args.folder.now c.check.new.folder) (change c.args.out.now c.check.new.out) (change c.args.err.now c.check.new.err) command c.check.result)
+    (ap (λ (held : Command). Some (view_of held)) (sym c.in-Some-Check.field-0-is) ∙ c.in-Some-Check.ensures.value) c.check.ensures
 
 pub returns-in-Some-List : goal.returns-in-Some-List
 returns-in-Some-List g c =
