@@ -15,13 +15,13 @@ ghost use Rattle.orbit_build.specs.Sums.{is_built};
 ghost use Rattle.orbit_build.specs.Faults.{is_late};
 ghost use Rattle.orbit_build.specs.Faithful.{HasCore, HasRefusal, IsOver, IsUnbuilt, IsBuilt, IsImageOfUnit, Faithful};
 
-use t_expand::expand;
 use crate::fault::BuildFault;
 use crate::unit::{code_of, is_built};
 use image_file::{Image, write_image};
 use std::alloc::Global;
 use t_base::{Memory, Names};
 use t_core::{UnitCore, limits};
+use t_expand::expand;
 use t_objects::resolve_ops;
 use t_reader::read_unit;
 
