@@ -8,6 +8,7 @@ pub mod KeepingLemmas
 pub mod KindLemmas
 pub mod MarkLemmas
 pub mod NodeLemmas
+pub mod NoTwice
 pub mod NotBoth
 pub mod PlaceLemmas
 pub mod QuotedLemmas

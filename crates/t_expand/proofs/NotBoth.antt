@@ -1,18 +1,14 @@
 -- No data have both a core and a refusal.
-use Rattle.std.proofs.Common.{◌≡◌, ◌≢◌, ◌⊎◌, inl, inr, ℕ, suc, zero, ◌+◌, ◌<◌, ◌≤◌, ◌==◌, Bool, true, false, List, [], ◌∷◌, ◌++◌, length, map, take, get_or, Option, Some, None, slice_get, Contains, All, refl, sym, ap, subst, ◌∙◌, arith}
-use Rattle.std.specs.List.{list_any}
-use Rattle.t_base.specs.declared.basics.Span.{Span}
+use Rattle.std.proofs.Common.{◌≡◌, ℕ, suc, zero, ◌<◌, Bool, false, List, [], ◌∷◌, ◌++◌, length, get_or, Some, None, Contains, sym, subst, ◌∙◌, arith}
 use Rattle.t_base.specs.declared.basics.Var.{Var}
 use Rattle.t_base.specs.declared.shared_parts.Shared.{Shared}
-use Rattle.t_core.specs.declared.forms.Form.{Form}
 use Rattle.t_core.specs.Nodes.{parts_of, Part}
-use Rattle.t_forms.specs.Data.{Datum, Binder, Name}
+use Rattle.t_forms.specs.Data.{Datum}
 use Rattle.t_forms.specs.Names.{Scope, Bound, within}
 use Rattle.t_rows.specs.declared.refusal.Refusal.{Refusal}
-use Rattle.t_rows.specs.Rows.{Row, stands_for, node, Shape, Part as RowPart, row, twice, Definition, define, lset, operation_form}
-use Rattle.t_expand.specs.Meaning.{Nodes, Means, as_form, as_node, AllMean, no_parts, one_part, RootMeans, ValueMeans, TopMeans, FormMeans, FormsMean, IsKind, top_scope}
+use Rattle.t_rows.specs.Rows.{stands_for, node, Shape, Part as RowPart, row, Definition, define, lset, operation_form}
+use Rattle.t_expand.specs.Meaning.{Nodes, Means, as_form, as_node, AllMean, no_parts, one_part, ValueMeans, top_scope}
 use Rattle.t_expand.specs.Refusals.{Refused, in_form, at_form, in_part, RefusedDefinition}
-use Rattle.t_expand.specs.Units.{Top, defining, broken, expression}
 use Rattle.t_expand.proofs.FirstLemmas.{contains_none}
 
 same_form : (d e : Datum) → stands_for d ≡ stands_for e → d ≡ e
