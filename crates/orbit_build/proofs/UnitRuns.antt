@@ -36,7 +36,7 @@ use Rattle.orbit_build.specs.Sums.{most_open, Term, HasFixnums, AreTerms}
 use Rattle.orbit_build.proofs.Evaluation.{Outcome, Value, Faulted, Counters, Evaluation, whole, Progress, reached, counted, continued, whole_run, top, fresh}
 use Rattle.orbit_build.proofs.Meanings.{seen, meaning_whole}
 use Rattle.orbit_build.specs.Code.{empty_list, term_code, terms_code, unit_code, statics_bytes, image_of}
-use Rattle.orbit_build.specs.Faithful.{factor, frame_words, KeepsMeaning}
+use Rattle.orbit_build.specs.Faithful.{factor, frame_words, KeepsMeaning, NeverFull}
 use Rattle.orbit_build.proofs.Words.{face_word}
 use Rattle.orbit_build.proofs.Runs.{Finishes, with_registers, finishes_one, finishes_on}
 use Rattle.orbit_build.proofs.Sums.{Fit, Ending}
@@ -204,13 +204,20 @@ module _ (unit : UnitCore) (escapes : Marking) (ts : List Term) (are : AreTerms 
   same_of : (e d : End) → Some e ≡ Some d → e ≡ d
   same_of e d q = cc
 
+  -- the one end of the run
+  the_end : (k : ℕ) (e : End) → (b k).end ≡ Some e → end_of [] comes.how ≡ e
+  the_end k e q =
+      let x = exited k e q in
+      let same = end_of_run k x.how x.ended in
+      same_of _ _ (sym seen_end ∙ sym (ap (λ (o : Observation). o.end) same) ∙ q)
+
+  pub proper_end : (k : ℕ) (e : End) → (b k).end ≡ Some e → IsProper e
+  proper_end k e q = subst IsProper (the_end k e q) comes.proper
+
   pub keeps_within : (frame : ℕ) → KeepsWithin frame factor (meaning unit escapes) (observed (image_of ts) sizes)
   keeps_within frame = record {
     ends_only = λ k e q.
-        let x = exited k e q in
-        let same = end_of_run k x.how x.ended in
-        let is : end_of [] comes.how ≡ e = same_of _ _ (sym seen_end ∙ sym (ap (λ (o : Observation). o.end) same) ∙ q) in
-        inl (subst IsProper is comes.proper, (top ts, record { ended = meant_end ∙ ap (λ (d : End). Some d) is; output = silent (top ts) ∙ sym (quiet k).output }));
+        inl (proper_end k e q, (top ts, record { ended = meant_end ∙ ap (λ (d : End). Some d) (the_end k e q); output = silent (top ts) ∙ sym (quiet k).output }));
     ends = λ m e q.
         let same = meant m e q in
         let is : Some (end_of [] comes.how) ≡ Some e = sym meant_end ∙ sym (ap (λ (o : Observation). o.end) same) ∙ q in
@@ -225,3 +232,6 @@ module _ (unit : UnitCore) (escapes : Marking) (ts : List Term) (are : AreTerms 
 
 pub keeps_meaning : (unit : UnitCore) (ts : List Term) → AreTerms unit.forms.items ts → AreSmall ts → length (unit_code ts) ≤ 2 ^ 28 → KeepsMeaning unit (image_of ts)
 keeps_meaning unit ts are h small sizes heap stack = keeps_within unit all_escape ts are sizes h small (frame_words unit)
+
+pub never_full : (unit : UnitCore) (ts : List Term) → AreTerms unit.forms.items ts → AreSmall ts → length (unit_code ts) ≤ 2 ^ 28 → NeverFull (image_of ts)
+never_full unit ts are h small sizes heap stack = proper_end unit all_escape ts are sizes h small

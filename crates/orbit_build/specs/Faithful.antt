@@ -1,6 +1,7 @@
 -- What a text is compiled to, and why a text is not compiled.
-use Rattle.std.specs.Prelude.{◌≡◌, ℕ, ◌+◌, ◌*◌, true, false, List, Ok, Err}
+use Rattle.std.specs.Prelude.{◌≡◌, ℕ, ◌+◌, ◌*◌, true, false, List, Some, Ok, Err}
 use Rattle.program_runs.specs.Keeps.{KeepsWithin}
+use Rattle.program_runs.specs.Runs.{End, IsProper}
 use Rattle.t_base.specs.declared.basics.Span.{Span}
 use Rattle.t_reader.specs.Grammar.{Tree, Reads}
 use Rattle.t_core.specs.declared.forms.UnitCore.{UnitCore}
@@ -68,11 +69,17 @@ abbrev pub KeepsMeaning : UnitCore → Parts → Type 0
 KeepsMeaning unit image =
     (sizes : Sizes) → is_size sizes.heap ≡ true → is_size sizes.stack ≡ true → KeepsWithin (frame_words unit) factor (meaning_at_most unit) (observed image sizes)
 
+-- What is built uses neither heap nor stack: for all sizes the image's run ends by a value or a fault alone.
+abbrev pub NeverFull : Parts → Type 0
+NeverFull image =
+    (sizes : Sizes) → is_size sizes.heap ≡ true → is_size sizes.stack ≡ true → (k : ℕ) (e : End) → (observed image sizes k).end ≡ Some e → IsProper e
+
 -- the bytes are an image that does what the unit means
 pub record IsImageOfUnit (unit : UnitCore) (bytes : List ℕ) : Type 0 where
   pub image : Parts
   pub spelled : IsImageOf bytes image
   pub keeps : KeepsMeaning unit image
+  pub never_full : NeverFull image
 
 -- The text has a core within the limits, and the bytes are an image that does what the core means.
 pub record Faithful (text bytes : List ℕ) : Type 0 where
@@ -82,3 +89,4 @@ pub record Faithful (text bytes : List ℕ) : Type 0 where
   pub image : Parts
   pub spelled : IsImageOf bytes image
   pub keeps : KeepsMeaning unit image
+  pub never_full : NeverFull image

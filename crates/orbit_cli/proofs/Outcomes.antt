@@ -5,11 +5,11 @@ use Rattle.t_ports.specs.declared.ports.Folder.{Ghosts as FolderOf}
 use Rattle.t_ports.specs.declared.ports.Sink.{Ghosts as SinkOf}
 use Rattle.t_ports.specs.Causes.{Rose}
 use Rattle.t_ports.specs.Files.{Files, IfBothTold, IsSame, Puts}
-use Rattle.program_runs.specs.Runs.{Broken}
+use Rattle.program_runs.specs.Runs.{End, Full, Broken, IsProper}
 use Rattle.t_core.specs.declared.forms.UnitCore.{UnitCore}
 use Rattle.image_file.specs.Grammar.{Parts, IsImageOf}
 use Rattle.image_file.proofs.Laws.{one_image}
-use Rattle.orbit_build.specs.Faithful.{Faithful, KeepsMeaning}
+use Rattle.orbit_build.specs.Faithful.{Faithful, NeverFull}
 use Rattle.orbit_monitor.specs.declared.end.Exit.{Exit}
 use Rattle.orbit_monitor.specs.declared.end.Exit.TheVariants as exit
 use Rattle.orbit_monitor.specs.Run.{run}
@@ -101,24 +101,36 @@ by_end P done fault heap stack limit stop (Some (exit.Full false asked left)) = 
 by_end P done fault heap stack limit stop (Some (exit.Stop why at)) = stop
 by_end P done fault heap stack limit stop None = limit
 
-full_is_no_stop : (stack : Bool) → full_status stack ≡ status.MachineStop → ⊥
-full_is_no_stop true e = cc
-full_is_no_stop false e = cc
+-- a status of a run that was ended by a value or a fault, or not at all
+is_proper : Status → Bool
+is_proper status.Done = true
+is_proper status.SourceFault = true
+is_proper status.StepLimit = true
+is_proper _ = false
 
--- a stop is seen as a broken run
-stop_is_broken : (names : List (List ℕ)) (o : Option Exit) → end_status o ≡ status.MachineStop → option_map (end_of names) o ≡ Some Broken
-stop_is_broken names (Some (exit.Done face)) e = cc
-stop_is_broken names (Some (exit.Fault f)) e = cc
-stop_is_broken names (Some (exit.Full stack asked left)) e = absurd (full_is_no_stop stack e)
-stop_is_broken names (Some (exit.Stop why at)) e = refl
-stop_is_broken names None e = cc
+-- the run has ended, neither by a value nor by a fault
+record EndsOtherwise (names : List (List ℕ)) (o : Option Exit) : Type 0 where
+  end : End
+  ended : option_map (end_of names) o ≡ Some end
+  otherwise : IsProper end → ⊥
 
--- the image of a text never stops
-never_stops : (text bytes : List ℕ) (image : Parts) (bounds : Bounds) → Faithful text bytes → IsImageOf bytes image → AreSizes bounds.sizes → (answer image bounds.sizes bounds.steps).status ≡ status.MachineStop → ⊥
-never_stops text bytes image bounds faithful spelled sized e =
+no_truth : true ≡ false → ⊥
+no_truth e = cc
+
+ends_otherwise : (names : List (List ℕ)) (o : Option Exit) (s : Status) → end_status o ≡ s → is_proper s ≡ false → EndsOtherwise names o
+ends_otherwise names (Some (exit.Done face)) s e h = absurd (no_truth (ap is_proper e ∙ h))
+ends_otherwise names (Some (exit.Fault x)) s e h = absurd (no_truth (ap is_proper e ∙ h))
+ends_otherwise names (Some (exit.Full stack asked left)) s e h = record { end = Full stack asked left; ended = refl; otherwise = λ p. p }
+ends_otherwise names (Some (exit.Stop why at)) s e h = record { end = Broken; ended = refl; otherwise = λ p. p }
+ends_otherwise names None s e h = absurd (no_truth (ap is_proper e ∙ h))
+
+-- the image of a text neither stops nor fills heap or stack
+never_otherwise : (text bytes : List ℕ) (image : Parts) (bounds : Bounds) (s : Status) → Faithful text bytes → IsImageOf bytes image → AreSizes bounds.sizes → is_proper s ≡ false → (answer image bounds.sizes bounds.steps).status ≡ s → ⊥
+never_otherwise text bytes image bounds s faithful spelled sized improper e =
     let same : faithful.image ≡ image = one_image bytes faithful.image image faithful.spelled spelled in
-    let keeps : KeepsMeaning faithful.unit image = subst (λ (p : Parts). KeepsMeaning faithful.unit p) same faithful.keeps in
-    ⊎_elim (λ proper. proper.0) (λ cost. cost) ((keeps bounds.sizes sized.heap sized.stack).ends_only bounds.steps Broken (stop_is_broken image.names (run image bounds.sizes bounds.steps).end e))
+    let never : NeverFull image = subst (λ (p : Parts). NeverFull p) same faithful.never_full in
+    let x = ends_otherwise image.names (run image bounds.sizes bounds.steps).end s e improper in
+    x.otherwise (never bounds.sizes sized.heap sized.stack bounds.steps x.end x.ended)
 
 module _ {F S E : Type 0} (f : FolderOf F) (o : SinkOf S) (e : SinkOf E) (folder : Change F) (out : Change S) (err : Change E) where
   -- ---- run
@@ -260,12 +272,12 @@ module _ {F S E : Type 0} (f : FolderOf F) (o : SinkOf S) (e : SinkOf E) (folder
       abbrev GoesTo : Status → Type 0
       GoesTo s = IsAnswered o e out err (answer h.image bounds.sizes bounds.steps) s → GoOutcome f o e folder out err src img bounds s
 
-      stopped : GoesTo status.MachineStop
-      stopped a = never_stops compiled.text bytes h.image bounds compiled.faithful h.spelled sized a.status_is
+      never : (s : Status) → is_proper s ≡ false → IsAnswered o e out err (answer h.image bounds.sizes bounds.steps) s → ⊥
+      never s improper a = never_otherwise compiled.text bytes h.image bounds s compiled.faithful h.spelled sized improper a.status_is
 
       pub went : (ended : Status) → Reports o e out err (answer_on loaded bounds.steps) ended → GoOutcome f o e folder out err src img bounds ended
       went ended r =
           ⊎_elim
-          (λ a. subst GoesTo a.status_is (by_end GoesTo (kept_and_ran status.Done) (kept_and_ran status.SourceFault) (kept_and_ran status.HeapFull) (kept_and_ran status.StackFull) (kept_and_ran status.StepLimit) stopped (run h.image bounds.sizes bounds.steps).end) a)
+          (λ a. subst GoesTo a.status_is (by_end GoesTo (kept_and_ran status.Done) (kept_and_ran status.SourceFault) (never status.HeapFull refl) (never status.StackFull refl) (kept_and_ran status.StepLimit) (never status.MachineStop refl) (run h.image bounds.sizes bounds.steps).end) a)
           (λ u. subst (λ (s : Status). GoOutcome f o e folder out err src img bounds s) (sym u.1) (go_cut u.0))
           (subst (λ (x : Answer). Reports o e out err x ended) go_answer_is r)

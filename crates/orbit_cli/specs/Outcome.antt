@@ -164,12 +164,13 @@ module _ {F S E : Type 0} (f : FolderOf F) (o : SinkOf S) (e : SinkOf E) (folder
   abbrev pub IsKeptAndRun : List ℕ → List ℕ → Bounds → Status → Type 0
   IsKeptAndRun src img bounds ended = OfText src img (λ image. IsAnswered o e out err (answer image bounds.sizes bounds.steps) ended)
 
-  -- of `go`: its run never stops the machine. Where there is no run, all is as with `compile`.
+  -- Of `go`: its run never stops the machine, and what is built never fills the heap or the stack. Where there is no run, all is as with
+  -- `compile`.
   abbrev pub GoOutcome : List ℕ → List ℕ → Bounds → Status → Type 0
   GoOutcome src img bounds status.Done = IsKeptAndRun src img bounds status.Done
   GoOutcome src img bounds status.SourceFault = IsKeptAndRun src img bounds status.SourceFault
-  GoOutcome src img bounds status.HeapFull = IsKeptAndRun src img bounds status.HeapFull
-  GoOutcome src img bounds status.StackFull = IsKeptAndRun src img bounds status.StackFull
+  GoOutcome src img bounds status.HeapFull = ⊥
+  GoOutcome src img bounds status.StackFull = ⊥
   GoOutcome src img bounds status.StepLimit = IsKeptAndRun src img bounds status.StepLimit
   GoOutcome src img bounds status.MachineStop = ⊥
   GoOutcome src img bounds status.WriteFault =
