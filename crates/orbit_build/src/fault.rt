@@ -7,6 +7,8 @@ use t_expand::{SyntaxFault, SyntaxKind};
 use t_reader::{ReadFault, ReadKind};
 use thiserror::Error;
 
+/// Why a text has no image: its first fault by the grammar, the first refusal of its forms, the first limit that it passes, a form or node that
+/// isn't built yet, or the want of memory.
 #[derive(Debug, Drop, Error)]
 pub enum BuildFault {
     /// The first fault of the text, and where it stands.

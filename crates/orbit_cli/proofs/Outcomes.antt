@@ -102,7 +102,7 @@ by_end P done fault heap stack limit stop (Some (exit.Stop why at)) = stop
 by_end P done fault heap stack limit stop None = limit
 
 -- a status of a run that was ended by a value or a fault, or not at all
-is_proper : Status → Bool
+abbrev is_proper : Status → Bool
 is_proper status.Done = true
 is_proper status.SourceFault = true
 is_proper status.StepLimit = true
