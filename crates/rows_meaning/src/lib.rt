@@ -2,6 +2,8 @@
 //! work. They show that the definitions say what the description of the language says.
 #![tactic(auto)]
 
+pub mod whole;
+
 ghost use Rattle.std.specs.Prelude.{[], ◌∷◌, ◌++◌, pos, codes};
 ghost use Rattle.program_runs.specs.Runs.{Value, Faulted, Fixnum, Character, EmptyList, Truth, Symbol, Kind};
 ghost use Rattle.t_base.specs.declared.faults.Fault.TheVariants.{NotProcedure, WrongCount, NotFixnum, NotPair, NotVector, IndexRange, FixnumOverflow, DivideByZero, Unbound, DeadEscape, NotHandled, NotChar, NotString, CharRange, User, NotSymbol};
