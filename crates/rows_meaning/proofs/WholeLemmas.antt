@@ -1,10 +1,10 @@
 -- A unit that passes the test is whole.
-use Rattle.std.proofs.Common.{◌≡◌, ◌≢◌, ℕ, zero, suc, ◌+◌, ◌<◌, ◌≤◌, ◌==◌, nat_lt, nat_le, Bool, true, false, not, ◌&&◌, ◌||◌, List, [], ◌∷◌, ◌++◌, length, get_or, slice_get, slice_index_or, Option, None, Some, All, AllPairs, Contains, IsTrue, count_by, refl, sym, ap, subst, ◌∙◌, arith, ◌⊎◌, inl, inr}
-use Rattle.std.specs.Prelude.{IsSomeAnd, if◌then◌else◌, EachIndex}
+use Rattle.std.proofs.Common.{◌≡◌, ◌≢◌, ℕ, zero, suc, ◌+◌, ◌<◌, ◌≤◌, ◌==◌, nat_lt, nat_le, Bool, true, false, not, ◌&&◌, ◌||◌, List, [], ◌∷◌, ◌++◌, length, get_or, slice_get, Option, None, Some, All, AllPairs, Contains, IsTrue, count_by, refl, sym, ap, subst, ◌∙◌, arith, ◌⊎◌, inl, inr}
+use Rattle.std.specs.Prelude.{IsSomeAnd}
 use Rattle.std.specs.List.{flat_map, list_all, list_any, AllByRecursion}
 use Rattle.std.specs.Option.{option_map, option_map_or}
 use Rattle.std.specs.Global.{Global}
-use Rattle.std.proofs.lemmas.Bool.{and_parts, true≢false, ltb-true, leb-true, eqb-true, eq-eqb, cases_lt}
+use Rattle.std.proofs.lemmas.Bool.{and_parts, true≢false, ltb-true, leb-true, eqb-true, cases_lt}
 use Rattle.std.proofs.lemmas.List.Sums.{AllPass-from_list_all}
 use Rattle.t_base.specs.declared.basics.Var.{Var}
 use Rattle.t_base.specs.declared.shared_parts.Const.{Const}
@@ -17,17 +17,14 @@ use Rattle.t_base.specs.declared.shared_parts.Shared.{Shared}
 use Rattle.t_prim.specs.SharedParts.{IsConst, IsNameText, StandsBelow, IsWholeShared}
 use Rattle.t_core.specs.declared.forms.Core.{Core}
 use Rattle.t_core.specs.declared.forms.Core.TheVariants as Node
-use Rattle.t_core.specs.declared.forms.Method.{Method}
 use Rattle.t_core.specs.declared.forms.FormKind.{FormKind}
 use Rattle.t_core.specs.declared.forms.FormKind.TheVariants.{Define, Lset, Operation, Plain}
 use Rattle.t_core.specs.declared.forms.Form.{Form}
 use Rattle.t_core.specs.declared.forms.UnitCore.{UnitCore}
-use Rattle.t_core.specs.Counts.{form_count}
-use Rattle.t_core.specs.Limits.{greatest}
-use Rattle.t_core.specs.Nodes.{Part, parts_of, places_of, has_self}
+use Rattle.t_core.specs.Nodes.{parts_of, places_of}
 use Rattle.t_core.specs.Whole.{NamesAreThere, IsTree, HasPlaces, IsInPlace, IsScopedWithin, IsScoped, binders, HasScopes, is_lambda_at, IsShaped, HasShapes, DefinesAs, IsDefault, IsDefinition, defines_global, defines_op, HasDefinitions, named_pairs, HasSharedParts, IsWhole}
 use Rattle.rows_meaning.specs.WholeUnits.{AreWhole}
-use Rattle.rows_meaning.proofs.WholeTests.{each_below, each_from, are_distinct, same_bytes, is_empty, const_is_there, names_are_there, named_so_often, is_tree, has_places, same_var, same_flag, is_in_place, is_scoped_within, is_scoped, has_scopes, is_variable, is_of_variable, is_shaped, has_shapes, defines_as, is_default, is_definition, has_definitions, stands_below, is_name_text, are_whole_parts, has_shared_parts, is_whole}
+use Rattle.rows_meaning.proofs.WholeTests.{each_below, each_from, are_distinct, same_bytes, is_empty, const_is_there, names_are_there, named_so_often, is_tree, has_places, same_var, same_flag, is_in_place, is_scoped_within, is_scoped, has_scopes, is_variable, is_shaped, has_shapes, defines_as, is_default, is_definition, has_definitions, stands_below, is_name_text, are_whole_parts, has_shared_parts, is_whole}
 
 -- ---- tests of lists
 
@@ -190,7 +187,7 @@ scoped_from nodes (suc depth) scope tail k e =
     (λ node h. (
       in_place_from scope tail node (and_parts _ _ h).0,
       by_recursion_from (λ p. IsScopedWithin nodes depth (p.binds ++ scope) p.tail p.at) (λ p. is_scoped_within nodes depth (p.binds ++ scope) p.tail p.at)
-      (λ p s. scoped_from nodes depth (p.binds ++ scope) p.tail p.at s) (parts_of node tail) (and_parts (is_in_place scope tail node) _ h).1,
+          (λ p s. scoped_from nodes depth (p.binds ++ scope) p.tail p.at s) (parts_of node tail) (and_parts (is_in_place scope tail node) _ h).1,
     ))
     (slice_get nodes k) e
 
@@ -260,17 +257,17 @@ definition_from : (shared : Shared) (kind : FormKind) (nodes : List Core) (root 
 definition_from shared (Define g) nodes root e = (
   ltb-true 0 (length nodes) (and_parts _ _ e).0,
   some_from (λ (info : Global1). DefinesAs nodes root info.kind) (λ (info : Global1). defines_as nodes root info.kind) (λ info h. defines_from nodes root info.kind h)
-  (slice_get shared.globals.items g) (and_parts (nat_lt 0 (length nodes)) _ e).1,
+      (slice_get shared.globals.items g) (and_parts (nat_lt 0 (length nodes)) _ e).1,
 )
 definition_from shared (Lset g) nodes root e = (
   ltb-true 0 (length nodes) (and_parts _ _ e).0,
   some_from (λ (info : Global1). info.kind ≡ Variable) (λ (info : Global1). is_variable info.kind) (λ info h. variable_from info.kind h)
-  (slice_get shared.globals.items g) (and_parts (nat_lt 0 (length nodes)) _ e).1,
+      (slice_get shared.globals.items g) (and_parts (nat_lt 0 (length nodes)) _ e).1,
 )
 definition_from shared (Operation o) nodes root e = (
   leb-true 3 o (and_parts _ _ e).0,
   some_from (λ (info : OpInfo). IsDefault nodes root info.default) (λ (info : OpInfo). is_default nodes root info.default) (λ info h. default_from nodes root info.default h)
-  (slice_get shared.ops.items o) (and_parts (nat_le 3 o) _ e).1,
+      (slice_get shared.ops.items o) (and_parts (nat_le 3 o) _ e).1,
 )
 definition_from shared Plain nodes root e = ltb-true 0 (length nodes) e
 
@@ -310,7 +307,7 @@ text_from : (text : List ℕ) → is_name_text text ≡ true → IsNameText text
 text_from text e = (
   ltb-true 0 (length text) (and_parts _ _ e).0,
   all_from (λ b. (33 ≤ b) × (b ≤ 126)) (λ b. nat_le 33 b && nat_le b 126) (λ b h. (leb-true 33 b (and_parts _ _ h).0, leb-true b 126 (and_parts (nat_le 33 b) _ h).1))
-  text (and_parts (nat_lt 0 (length text)) _ e).1,
+      text (and_parts (nat_lt 0 (length text)) _ e).1,
 )
 
 no_default : (found : Option OpInfo) → option_map_or (λ info. not info.default) found false ≡ true → option_map (λ (info : OpInfo). info.default) found ≡ Some false
