@@ -1,7 +1,8 @@
 -- What a row says of a unit.
-use Rattle.std.specs.Prelude.{◌≡◌, ℕ, List, Option, Some, None}
+use Rattle.std.specs.Prelude.{◌≡◌, ℕ, ℤ, List, Option, Some, None, Result, Ok, Err}
 use Rattle.std.specs.Global.{Global}
-use Rattle.program_runs.specs.Runs.{End, Observation}
+use Rattle.t_base.specs.declared.faults.Fault.{Fault}
+use Rattle.program_runs.specs.Runs.{End, Value, Faulted, Fixnum, Observation}
 use Rattle.t_core.specs.declared.forms.UnitCore.{UnitCore}
 use Rattle.t_meaning.specs.Units.{meaning_of, meaning_at_most}
 
@@ -28,3 +29,18 @@ EndsByMarks unit bound output end c = (alloc : Global) → meaning_of (unit allo
 -- at the bound the unit is out of it
 abbrev pub IsOut : (Global → UnitCore) → ℕ → List ℕ → Cost → Type 0
 IsOut unit bound output c = (alloc : Global) → meaning_at_most (unit alloc) bound ≡ seen output None c
+
+-- the end by a number or a fault
+abbrev pub end_of : Result ℤ Fault → End
+end_of (Ok number) = Value (Fixnum number)
+end_of (Err fault) = Faulted fault
+
+-- one part of what is seen of the unit at the bound: its end, its output, its work
+abbrev pub EndsWith : (Global → UnitCore) → ℕ → End → Type 0
+EndsWith unit bound end = (alloc : Global) → (meaning_at_most (unit alloc) bound).end ≡ Some end
+
+abbrev pub Puts : (Global → UnitCore) → ℕ → List ℕ → Type 0
+Puts unit bound output = (alloc : Global) → (meaning_at_most (unit alloc) bound).output ≡ output
+
+abbrev pub Works : (Global → UnitCore) → ℕ → ℕ → Type 0
+Works unit bound work = (alloc : Global) → (meaning_at_most (unit alloc) bound).moves ≡ work

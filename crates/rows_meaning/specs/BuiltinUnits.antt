@@ -1,7 +1,7 @@
 -- Units that call one builtin or two.
 use Rattle.std.specs.Prelude.{[], ◌∷◌, refl, ◌++◌, pos, negsuc, false, codes}
 use Rattle.std.specs.Global.{Global}
-use Rattle.t_base.specs.declared.builtins.Builtin.TheVariants.{Add, AsciiToChar, Car, CharToAscii, Eq, Error, MakeVector, Newline, PutFixnum, PutString, Quotient, Remainder, StringElt, StringLength, SymbolToString, Vref}
+use Rattle.t_base.specs.declared.builtins.Builtin.TheVariants.{Add, AsciiToChar, Car, Cdr, CharToAscii, Cons, Eq, Error, MakeVector, Newline, PutFixnum, PutString, Quotient, Remainder, SetCdr, SetVref, StringElt, StringLength, Sub, SymbolToString, VectorLength, Vref}
 use Rattle.t_base.specs.declared.shared_parts.GlobalKind.TheVariants.{Proc}
 use Rattle.t_base.specs.declared.shared_parts.Const.TheVariants as Constant
 use Rattle.t_core.specs.declared.forms.Core.TheVariants as Node
@@ -216,6 +216,31 @@ two_closures alloc = record {
   forms = vec_of alloc (
       plain alloc (fix 1 ∷ lambda [] 0 ∷ lambda [] 1 ∷ local 0 ∷ Node.Call 3 [] false ∷ local 0 ∷ Node.Call 5 [] false ∷
       Node.Prim Eq (4 ∷ 6 ∷ []) ∷ labels (0 ∷ []) (2 ∷ []) 7 ∷ []) refl ∷
+      []) refl;
+}
+
+-- (let ((p (cons 1 2))) (set (cdr p) 5) (- (cdr p) (car p)))
+abbrev pub changed_pair : Global → UnitCore
+changed_pair alloc = record {
+  shared = bare alloc 14;
+  forms = vec_of alloc (
+      plain alloc (fix 1 ∷ fix 2 ∷ Node.Prim Cons (0 ∷ 1 ∷ []) ∷ local 0 ∷ fix 5 ∷ Node.Prim SetCdr (3 ∷ 4 ∷ []) ∷ local 0 ∷
+      Node.Prim Cdr (6 ∷ []) ∷ local 0 ∷ Node.Prim Car (8 ∷ []) ∷ Node.Prim Sub (7 ∷ 9 ∷ []) ∷ Node.Block (5 ∷ 10 ∷ []) ∷
+      bind (0 ∷ []) (2 ∷ []) 11 ∷ []) refl ∷
+      []) refl;
+}
+
+-- (let ((v (make-vector 3)))
+--   (set (vref v 1) 7) (put-fixnum (vref v 0)) (put-fixnum (vref v 1)) (put-fixnum (vref v 2)) (vector-length v))
+abbrev pub changed_vector : Global → UnitCore
+changed_vector alloc = record {
+  shared = bare alloc 23;
+  forms = vec_of alloc (
+      plain alloc (fix 3 ∷ Node.Prim MakeVector (0 ∷ []) ∷ local 0 ∷ fix 1 ∷ fix 7 ∷ Node.Prim SetVref (2 ∷ 3 ∷ 4 ∷ []) ∷
+      local 0 ∷ fix 0 ∷ Node.Prim Vref (6 ∷ 7 ∷ []) ∷ Node.Prim PutFixnum (8 ∷ []) ∷ local 0 ∷ fix 1 ∷
+      Node.Prim Vref (10 ∷ 11 ∷ []) ∷ Node.Prim PutFixnum (12 ∷ []) ∷ local 0 ∷ fix 2 ∷ Node.Prim Vref (14 ∷ 15 ∷ []) ∷
+      Node.Prim PutFixnum (16 ∷ []) ∷ local 0 ∷ Node.Prim VectorLength (18 ∷ []) ∷ Node.Block (5 ∷ 9 ∷ 13 ∷ 17 ∷ 19 ∷ []) ∷
+      bind (0 ∷ []) (1 ∷ []) 20 ∷ []) refl ∷
       []) refl;
 }
 

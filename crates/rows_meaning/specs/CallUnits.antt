@@ -1,7 +1,7 @@
 -- Units of calls.
 use Rattle.std.specs.Prelude.{[], ◌∷◌, refl, ◌++◌, true, false, codes}
 use Rattle.std.specs.Global.{Global}
-use Rattle.t_base.specs.declared.builtins.Builtin.TheVariants.{Add, Cons, NumEq, PutFixnum, Sub}
+use Rattle.t_base.specs.declared.builtins.Builtin.TheVariants.{Add, Car, Cons, NumEq, PutFixnum, Sub, Vref}
 use Rattle.t_base.specs.declared.shared_parts.GlobalKind.TheVariants.{Proc}
 use Rattle.t_core.specs.declared.forms.Core.TheVariants as Node
 use Rattle.t_core.specs.declared.forms.UnitCore.{UnitCore}
@@ -34,6 +34,16 @@ too_many_operands alloc = record {
       plain alloc (local 0 ∷ lambda (0 ∷ 1 ∷ []) 0 ∷ fix 1 ∷ Node.Prim PutFixnum (2 ∷ []) ∷ fix 1 ∷ Node.Block (3 ∷ 4 ∷ []) ∷
       fix 2 ∷ Node.Prim PutFixnum (6 ∷ []) ∷ fix 2 ∷ Node.Block (7 ∷ 8 ∷ []) ∷ fix 3 ∷ Node.Call 1 (5 ∷ 9 ∷ 10 ∷ []) false ∷
       []) refl ∷
+      []) refl;
+}
+
+-- ((lambda (a b) a) (car 5) (vref 1 0))
+abbrev pub two_bad_operands : Global → UnitCore
+two_bad_operands alloc = record {
+  shared = bare alloc 10;
+  forms = vec_of alloc (
+      plain alloc (local 0 ∷ lambda (0 ∷ 1 ∷ []) 0 ∷ fix 5 ∷ Node.Prim Car (2 ∷ []) ∷ fix 1 ∷ fix 0 ∷
+      Node.Prim Vref (4 ∷ 5 ∷ []) ∷ Node.Call 1 (3 ∷ 6 ∷ []) false ∷ []) refl ∷
       []) refl;
 }
 

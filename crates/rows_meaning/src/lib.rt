@@ -2,19 +2,25 @@
 //! work. They show that the definitions say what the description of the language says.
 #![tactic(auto)]
 
+mod results;
 pub mod whole;
 
 ghost use Rattle.std.specs.Prelude.{[], ◌∷◌, ◌++◌, pos, codes};
 ghost use Rattle.program_runs.specs.Runs.{Value, Faulted, Fixnum, Character, EmptyList, Truth, Symbol, Kind};
 ghost use Rattle.t_base.specs.declared.faults.Fault.TheVariants.{NotProcedure, WrongCount, NotFixnum, NotPair, NotVector, IndexRange, FixnumOverflow, DivideByZero, Unbound, DeadEscape, NotHandled, NotChar, NotString, CharRange, User, NotSymbol};
 ghost use Rattle.rows_meaning.specs.Answers.{cost, Ends, EndsByMarks, IsOut};
-ghost use Rattle.rows_meaning.specs.BuiltinUnits.{add_nil, car_of_number, vref_of_number, vref_past_end, negative_vector, sum_too_large, quotient_too_large, divide_by_zero, code_of_number, length_of_number, char_past_end, name_of_number, user_fault, largest_sum, last_char, two_literals, one_literal, one_builtin, one_print_name, one_quoted_pair, two_closures, shown_char, shown_true, shown_symbol, shown_pair, shown_vector, shown_string, shown_builtin, shown_closure, shown_escape, shown_object, shown_operation};
-ghost use Rattle.rows_meaning.specs.CallUnits.{no_procedure, operator_first, too_many_operands, builtin_with_one, values_in_order, swap, upward, downward, tail_loop, deep_calls, if_at_top};
+ghost use Rattle.rows_meaning.specs.BuiltinUnits.{add_nil, car_of_number, vref_of_number, vref_past_end, negative_vector, sum_too_large, quotient_too_large, divide_by_zero, code_of_number, length_of_number, char_past_end, name_of_number, user_fault, largest_sum, last_char, two_literals, one_literal, one_builtin, one_print_name, one_quoted_pair, two_closures, changed_pair, changed_vector, shown_char, shown_true, shown_symbol, shown_pair, shown_vector, shown_string, shown_builtin, shown_closure, shown_escape, shown_object, shown_operation};
+ghost use Rattle.rows_meaning.specs.CallUnits.{no_procedure, operator_first, too_many_operands, two_bad_operands, builtin_with_one, values_in_order, swap, upward, downward, tail_loop, deep_calls, if_at_top};
 ghost use Rattle.rows_meaning.specs.DefinitionUnits.{no_forms, procedure_form, value_form, variable_form, operation_form, late_procedure, early_set, bump};
 ghost use Rattle.rows_meaning.specs.CatchUnits.{through_inner_catch, past_a_procedure, dead_escape, dead_inner_escape, dead_escape_with_two};
 ghost use Rattle.rows_meaning.specs.ObjectUnits.{areas, settable, locative_once, first_method, default_behind_methods, no_operands, method_with_two, default_with_two, no_procedure_part};
 ghost use Rattle.rows_meaning.specs.CostUnits.{pair_and_vectors, assigned_binding, assigned_parameter, assigned_label, assigned_escape, each_of_list, each_in_tail_place};
 ghost use Rattle.rows_meaning.specs.QueensUnit.{queens};
+
+pub use crate::results::{
+    call_of_a_dead_escape, elements_after_set, fault_of_the_left_operand,
+    output_before_a_wrong_call, work_up_to_the_first_method,
+};
 
 /// What each builtin refuses comes with its own fault, at the first operand that is wrong.
 pub fn faults_of_builtins()
@@ -46,6 +52,12 @@ pub fn values_of_builtins()
     ensures two_closures { Ends two_closures 10 [] (Value EmptyList) (cost 42 4 12) }
 {}
 
+/// SET of a part of a pair or of an element of a vector changes that place and no other.
+pub fn changed_places()
+    ensures changed_pair { Ends changed_pair 10 [] (Value (Fixnum (pos 4))) (cost 2 5 14) }
+    ensures changed_vector { Ends changed_vector 10 (codes "070") (Value (Fixnum (pos 3))) (cost 6 5 23) }
+{}
+
 /// How a value of each kind is shown.
 pub fn shown_values()
     ensures shown_char { Ends shown_char 10 [] (Value (Character 97)) (cost 0 1 2) }
@@ -66,6 +78,7 @@ pub fn calls()
     ensures no_procedure { Ends no_procedure 10 (codes "1") (Faulted NotProcedure) (cost 0 3 6) }
     ensures operator_first { Ends operator_first 10 (codes "12") (Faulted NotProcedure) (cost 0 4 9) }
     ensures too_many_operands { Ends too_many_operands 10 (codes "12") (Faulted WrongCount) (cost 18 4 13) }
+    ensures two_bad_operands { Ends two_bad_operands 10 [] (Faulted NotPair) (cost 14 3 5) }
     ensures builtin_with_one { Ends builtin_with_one 10 [] (Faulted WrongCount) (cost 0 3 7) }
     ensures values_in_order { Ends values_in_order 10 (codes "12") (Value (Fixnum (pos 1))) (cost 0 4 13) }
     ensures swap { Ends swap 30 [] (Value (Fixnum (pos 1))) (cost 29 4 76) }

@@ -11,6 +11,10 @@ pub returns-clause-values_of_builtins : goal.returns-clause-values_of_builtins
 unfolding nodes_within datum_nodes
 returns-clause-values_of_builtins c = all_whole _ (λ alloc. refl)
 
+pub returns-clause-changed_places : goal.returns-clause-changed_places
+unfolding nodes_within datum_nodes
+returns-clause-changed_places c = all_whole _ (λ alloc. refl)
+
 pub returns-clause-shown_values : goal.returns-clause-shown_values
 unfolding nodes_within datum_nodes
 returns-clause-shown_values c = all_whole _ (λ alloc. refl)
