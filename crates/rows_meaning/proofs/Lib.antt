@@ -1,0 +1,2 @@
+mod WholeTests
+mod WholeLemmas

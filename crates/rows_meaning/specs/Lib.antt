@@ -7,3 +7,4 @@ pub mod CatchUnits
 pub mod ObjectUnits
 pub mod CostUnits
 pub mod QueensUnit
+pub mod WholeUnits

@@ -3,6 +3,7 @@
 #![tactic(auto)]
 
 mod results;
+pub mod whole;
 
 ghost use Rattle.std.specs.Prelude.{[], ◌∷◌, ◌++◌, pos, codes};
 ghost use Rattle.program_runs.specs.Runs.{Value, Faulted, Fixnum, Character, EmptyList, Truth, Symbol, Kind};
