@@ -1,14 +1,14 @@
 -- The procedures of LABELS.
-use Rattle.std.proofs.Common.{◌≡◌, ℕ, Bool, true, false, List, [], ◌∷◌, map, Option, Some, None, if◌then◌else◌, refl, sym, ap, ◌∙◌}
+use Rattle.std.proofs.Common.{◌≡◌, ℕ, true, false, List, [], ◌∷◌, Option, Some, None, refl}
 use Rattle.std.specs.List.{AllZip}
-use Rattle.std.specs.Option.{option_map, option_and_then}
+use Rattle.std.specs.Option.{option_and_then}
 use Rattle.t_base.specs.declared.basics.Span.{Span}
 use Rattle.t_forms.specs.declared.arena.Cell.{Cell}
-use Rattle.t_forms.specs.Data.{Datum, atom, cons, items_of, Binder, binder_of, all_of, listed}
+use Rattle.t_forms.specs.Data.{Datum, atom, cons, items_of, Binder, binder_of}
 use Rattle.t_rows.specs.declared.labels.Procedure.{Procedure}
 use Rattle.t_rows.specs.Lists.{Grows, is_pair}
 use Rattle.t_rows.specs.Procedures.{IsProcedure, IsProcedureIf, labels_item_of}
-use Rattle.t_rows.specs.Rows.{Binding, binding, is_lambda_word, lambda_item, procedure_item, labels_item, lambda_form}
+use Rattle.t_rows.specs.Rows.{Binding, binding, is_lambda_word, lambda_item, procedure_item, labels_item}
 use Rattle.t_rows.proofs.Growth.{held_grows}
 use Rattle.t_rows.proofs.ZipLemmas.{zip_weaker}
 use Rattle.t_rows.proofs.AllLemmas.{AllSoFar}

@@ -1,8 +1,7 @@
-use Rattle.std.proofs.Common.{◌∷◌, [], map, refl}
+use Rattle.std.proofs.Common.{◌∷◌, map, refl}
 use Rattle.t_forms.specs.Data.{names}
 use Rattle.t_rows.specs.Given.{IsPart}
 use Rattle.t_rows.specs.Rows.{plain, inside, binders, body}
-use Rattle.t_rows.proofs.Growth.{held_grows}
 use Rattle.t_rows.proofs.ZipLemmas.{zip_push}
 use Rattle.t_rows.proofs.PartLemmas.{zip_parts}
 use Rattle.t_rows.proofs.BindingLemmas.{bindings_grow}

@@ -1,4 +1,4 @@
-use Rattle.std.proofs.Common.{◌∷◌, [], map, refl}
+use Rattle.std.proofs.Common.{◌∷◌, map, refl}
 use Rattle.t_forms.specs.Data.{names}
 use Rattle.t_rows.specs.Given.{IsPart}
 use Rattle.t_rows.specs.Rows.{inside, binders, body}

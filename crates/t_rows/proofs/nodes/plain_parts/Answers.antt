@@ -1,4 +1,4 @@
-use Rattle.std.proofs.Common.{◌<◌, length, get_or, take, add-one, refl}
+use Rattle.std.proofs.Common.{◌<◌, length, get_or, take, add-one}
 use Rattle.std.proofs.Math.Seq.{take-suc}
 use Rattle.std.proofs.lemmas.List.{take_all}
 use Rattle.t_forms.specs.Held.{Held}
