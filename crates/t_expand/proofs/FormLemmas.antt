@@ -97,9 +97,9 @@ form_found names cells vars around d e k r is same h = by (row around e) refl h
 
 -- a frame for the node of a row
 pub frame_opens : (old new : Expansion) (around : Scope) (d : Datum) (c : Cell) (f : Frame) (found : NodeRow) → Finds new.shared.names new.forms old.scope around d found
-    → IsScope new.shared.names old.scope around → slice_get new.forms found.key ≡ Some c → f.shape ≡ found.shape → f.span ≡ c.span → f.parts ≡ found.parts → f.done.items ≡ []
+    → IsScope new.shared.names old.scope around → slice_get new.forms found.key ≡ Some c → f.shape ≡ found.shape → f.span ≡ c.span → f.parts ≡ found.parts → f.done.items ≡ [] → f.bound.count ≡ 0
     → IsFirst old.first found.refusals.items new.first → Opens old new around d f
-frame_opens old new around d c f found finds scope got f_shape span f_parts done first = by (row around finds.form) refl finds.is
+frame_opens old new around d c f found finds scope got f_shape span f_parts done bound first = by (row around finds.form) refl finds.is
   where
     by : (t : Row) → row around finds.form ≡ t → IsRow new.shared.names new.forms (vars_of old.scope) (coded.Node found.shape found.refusals found.parts) t → Opens old new around d f
     by (stands_for g) eq h = let q = h.1 in absurd (cc)
@@ -110,19 +110,21 @@ frame_opens old new around d c f found finds scope got f_shape span f_parts done
         let same_parts : h.2 ≡ found.parts = cc in
         let same_rs : found.refusals.items ≡ refusals = ap (λ v. v.items) same_items ∙ h.5 in
         record {
-          top = record { at = old.scope; around = around; form = finds.form; shape = shape; refusals = refusals; before = []; after = parts };
+          top = record { at = old.scope; around = around; form = finds.form; shape = shape; refusals = refusals; before = []; last = []; after = parts };
           opened = record {
             scope = scope;
             row_is = eq;
             span = span ∙ held_span new.shared.names new.forms found.key finds.form c finds.held got;
             shape = subst (λ x. IsShape new.shared.names new.forms (vars_of old.scope) x shape) (same_shape ∙ sym f_shape) h.4;
-            left = record { past = []; rest = f.parts.items; split = refl; counted = ap length (sym done); are = subst (λ x. AreParts new.shared.names new.forms x.items parts) (same_parts ∙ sym f_parts) h.6 };
+            left = record { past = []; rest = f.parts.items; split = refl; counted = ap length (sym done); are = subst (λ x. AreParts new.shared.names new.forms [] x.items parts) (same_parts ∙ sym f_parts) h.6 };
             refused = λ n. none_refused refusals new.first n (λ x i. first.least x (subst (λ l. Contains l x) (sym same_rs) i));
             made = λ n. subst (λ l. AllMean new.shared new.nodes (vars_of old.scope) around [] (map part_of l)) (sym done) (no_parts (vars_of old.scope) around);
           };
           at = refl;
           around_is = refl;
           before = refl;
+          last = refl;
+          bound = bound;
           same = finds.same;
           first = subst (λ l. IsFirst old.first l new.first) same_rs first;
         }

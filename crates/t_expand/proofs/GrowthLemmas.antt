@@ -6,7 +6,7 @@ use Rattle.t_core.specs.declared.forms.Core.{Core}
 use Rattle.t_core.specs.declared.forms.Core.TheVariants as Node
 use Rattle.t_core.specs.Nodes.{Part as NodePart}
 use Rattle.t_forms.specs.declared.arena.Cell.{Cell}
-use Rattle.t_forms.specs.Data.{Datum}
+use Rattle.t_forms.specs.Data.{Datum, Name}
 use Rattle.t_forms.specs.Names.{Scope, within}
 use Rattle.t_forms.specs.Held.{Extends, IsScope, vars_of}
 use Rattle.t_forms.proofs.Keeping.{extends_same, extends_trans, held_grows}
@@ -44,10 +44,11 @@ IsShape-Extends names cells larger vars c call e h = h
 IsShape-Extends names cells larger vars c (primitive p) e h = h
 IsShape-Extends names cells larger vars c nothing e h = h
 
-pub AreParts-Extends : (names : List (List ℕ)) (cells larger : List Cell) (cs : List CodePart) (ps : List Part) → Extends cells larger → AreParts names cells cs ps → AreParts names larger cs ps
-AreParts-Extends names cells larger cs [] e h = h
-AreParts-Extends names cells larger cs (p ∷ ps) e h =
-    (h.0, h.1, h.2, ((h.3).0, held_grows e names (h.0).form p.form (h.3).1), AreParts-Extends names cells larger h.1 ps e h.4)
+pub AreParts-Extends : (names : List (List ℕ)) (cells larger : List Cell) (last : List Name) (cs : List CodePart) (ps : List Part) → Extends cells larger → AreParts names cells last cs ps
+    → AreParts names larger last cs ps
+AreParts-Extends names cells larger last cs [] e h = h
+AreParts-Extends names cells larger last cs (p ∷ ps) e h =
+    (h.0, h.1, h.2, ((h.3).0, held_grows e names (h.0).form p.form (h.3).1), AreParts-Extends names cells larger p.binds h.1 ps e h.4)
 
 -- ---- nodes
 
@@ -97,14 +98,14 @@ Grows_trans a b c g h = record {
   first = λ e. g.first (h.first e);
 }
 
-left_more : (names others : List (List ℕ)) (cells larger : List Cell) (parts : List CodePart) (count : ℕ) (after : List Part) → others ≡ names → Extends cells larger → AreLeft names cells parts count after
-    → AreLeft others larger parts count after
-left_more names others cells larger parts count after e x l = record {
+left_more : (names others : List (List ℕ)) (cells larger : List Cell) (parts : List CodePart) (count : ℕ) (last : List Name) (after : List Part) → others ≡ names → Extends cells larger
+    → AreLeft names cells parts count last after → AreLeft others larger parts count last after
+left_more names others cells larger parts count last after e x l = record {
   past = l.past;
   rest = l.rest;
   split = l.split;
   counted = l.counted;
-  are = subst (λ n. AreParts n larger l.rest after) (sym e) (AreParts-Extends names cells larger l.rest after x l.are);
+  are = subst (λ n. AreParts n larger last l.rest after) (sym e) (AreParts-Extends names cells larger last l.rest after x l.are);
 }
 
 pub IsOpen-Grows : (e g : Expansion) → Grows e g → (f : Frame) (o : Open) → IsOpen e f o → IsOpen g f o
@@ -113,7 +114,7 @@ IsOpen-Grows e g w f o i = record {
   row_is = i.row_is;
   span = i.span;
   shape = subst (λ n. IsShape n g.forms (vars_of o.at) f.shape o.shape) (sym w.shared.names) (IsShape-Extends e.shared.names e.forms g.forms (vars_of o.at) f.shape o.shape w.cells i.shape);
-  left = left_more e.shared.names g.shared.names e.forms g.forms f.parts.items _ o.after w.shared.names w.cells i.left;
+  left = left_more e.shared.names g.shared.names e.forms g.forms f.parts.items _ o.last o.after w.shared.names w.cells i.left;
   refused = λ h. i.refused (w.first h);
   made = λ h. AllMean-Adds e.shared g.shared e.nodes g.nodes w.shared w.nodes w.spans _ o.around o.before _ (i.made (w.first h));
 }

@@ -12,14 +12,15 @@ use Rattle.t_forms.specs.Held.{Held, Extends, Around, vars_of, IsScope, IsTable,
 use Rattle.t_rows.specs.declared.refusal.Refusal.{Refusal}
 use Rattle.t_rows.specs.declared.rows.Part.{Part as CodePart}
 use Rattle.t_rows.specs.Rows.{Part, node, row}
-use Rattle.t_rows.specs.Given.{IsPart, IsShape, AreParts}
+use Rattle.t_rows.specs.Given.{AreBinds, IsPartBehind, IsShape, AreParts}
 use Rattle.t_expand.specs.Meaning.{Means, as_node, AllMean, Fits}
 use Rattle.t_expand.specs.Refusals.{Refused, at_form}
 use Rattle.t_expand.specs.Building.{numbered, variables_of, part_of}
 use Rattle.t_expand.specs.Quoting.{Adds, AddsConstants}
 use Rattle.t_expand.specs.Expanding.{Grows, IsCovered, IsFirst}
-use Rattle.t_expand.specs.Driving.{SameForm, Root, Open, AreLeft, IsOpen, without, WaitsFor, Stacked, Among, Behind, Tracks, left_under, IsUnder, IsBack, IsEnd, Opens}
+use Rattle.t_expand.specs.Driving.{SameForm, Root, Open, AreLeft, IsOpen, without, Inside, WaitsFor, Stacked, Among, Behind, Tracks, left_under, IsUnder, IsBack, IsEnd, Opens}
 use Rattle.t_expand.specs.declared.build.Done.{Done}
+use Rattle.t_expand.specs.declared.build.Fresh.{Fresh}
 use Rattle.t_expand.specs.declared.driver_state.Expansion.{Expansion}
 use Rattle.t_expand.specs.declared.driver.Frame.{Frame}
 use Rattle.t_expand.specs.declared.driver.Waiting.{Waiting}
@@ -92,72 +93,70 @@ SameBut-Grows e g s = record {
   first = λ h. sym s.first ∙ h;
 }
 
--- names are bound around what follows
-pub record Binds (old mid : Expansion) (binds : List LocalName) (first : ℕ) : Type 0 where
-  pub same : SameBut old mid
-  pub names : map (λ l. l.name) mid.scope.locals ≡ binds ++ map (λ l. l.name) old.scope.locals
-  pub vars : map (λ l. l.var) mid.scope.locals ≡ numbered first (length binds) ++ map (λ l. l.var) old.scope.locals
-  pub outer : drop (length binds) mid.scope.locals ≡ old.scope.locals
-  pub table : mid.scope.table ≡ old.scope.table
+-- nothing is bound more
+pub inside_none : (names : List (List ℕ)) (at outer : Around) (around : Scope) (last : List Name) (fresh : Fresh) → at ≡ outer → last ≡ [] → fresh.count ≡ 0 → IsScope names outer around
+    → Inside names at outer around last fresh
+inside_none names at outer around last fresh same none few scope = record {
+  scope = subst (λ a. IsScope names a (within around last)) (sym same) (subst (λ l. IsScope names outer (within around l)) (sym none) scope);
+  vars = ap vars_of same ∙ ap (λ n. numbered fresh.first n ++ vars_of outer) (sym few);
+  count = ap length none ∙ ap (λ n. length (numbered fresh.first n)) (sym few);
+  outside = ap (λ n. without n at) few ∙ same;
+}
 
-pub bound : (old held : Expansion) (scope : Around) (binds names : List LocalName) (first : ℕ) → held ≡ record old { next = held.next } → names ≡ binds
-    → map (λ l. l.name) scope.locals ≡ names ++ map (λ l. l.name) held.scope.locals → map (λ l. l.var) scope.locals ≡ numbered first (length names) ++ map (λ l. l.var) held.scope.locals
-    → drop (length names) scope.locals ≡ held.scope.locals → scope.table ≡ held.scope.table → Binds old (record held { scope = scope }) binds first
-bound old held scope binds names first rest is on_names on_vars outer table = record {
-  same = record { forms = ap (λ e. e.forms) rest; shared = ap (λ e. e.shared) rest; nodes = ap (λ e. e.nodes) rest; first = ap (λ e. e.first) rest };
-  names = on_names ∙ ap (λ l. l ++ map (λ l. l.name) held.scope.locals) is ∙ ap (λ s. binds ++ map (λ l. l.name) s.locals) here;
-  vars = on_vars ∙ ap (λ l. numbered first (length l) ++ map (λ l. l.var) held.scope.locals) is ∙ ap (λ s. numbered first (length binds) ++ map (λ l. l.var) s.locals) here;
-  outer = ap (λ l. drop (length l) scope.locals) (sym is) ∙ outer ∙ ap (λ s. s.locals) here;
-  table = table ∙ ap (λ s. s.table) here;
+-- names are bound in the place of others
+pub inside_bound : (texts : List (List ℕ)) (was mid scope outer : Around) (around : Scope) (last ns : List Name) (before fresh : Fresh) (ks names : List LocalName) → IsScope texts outer around
+    → Inside texts was outer around last before → mid.locals ≡ drop before.count was.locals → mid.table ≡ was.table → AreNames texts ks ns → names ≡ ks
+    → map (λ l. l.name) scope.locals ≡ names ++ map (λ l. l.name) mid.locals → map (λ l. l.var) scope.locals ≡ numbered fresh.first (length names) ++ map (λ l. l.var) mid.locals
+    → drop (length names) scope.locals ≡ mid.locals → scope.table ≡ mid.table → fresh.count ≡ length ks → Inside texts scope outer around ns fresh
+inside_bound texts was mid scope outer around last ns before fresh ks names s i locals table are is on_names on_vars rest same_table count = record {
+  scope = record {
+    locals = subst (λ l. AreNames texts l (ns ++ around.locals)) (sym all_names) (AreNames-append texts ks _ ns around.locals are s.locals);
+    table = subst (λ t. IsTable texts t around.defined) (sym (same_table ∙ ap (λ a. a.table) here)) s.table;
+  };
+  vars = on_vars ∙ ap (λ l. numbered fresh.first (length l) ++ vars_of mid) is ∙ ap (λ n. numbered fresh.first n ++ vars_of mid) (sym count) ∙ ap (λ a. variables_of fresh ++ vars_of a) here;
+  count = length-AreNames texts ks ns are ∙ sym count ∙ sym (length-numbered fresh.first fresh.count);
+  outside = same_around (without fresh.count scope) outer (ap (λ n. drop n scope.locals) (count ∙ ap length (sym is)) ∙ rest ∙ ap (λ a. a.locals) here) (same_table ∙ ap (λ a. a.table) here);
 }
   where
-    here : held.scope ≡ old.scope
-    here = ap (λ e. e.scope) rest
+    here : mid ≡ outer
+    here = same_around mid (without before.count was) locals table ∙ i.outside
+
+    all_names : map (λ l. l.name) scope.locals ≡ ks ++ map (λ l. l.name) outer.locals
+    all_names = on_names ∙ ap (λ l. l ++ map (λ l. l.name) mid.locals) is ∙ ap (λ a. ks ++ map (λ l. l.name) a.locals) here
 
 -- the next part of an open form
 record NextPart (names : List (List ℕ)) (cells : List Cell) (part : CodePart) (o : Open) : Type 0 where
   now : Part
   rest : List Part
   after : o.after ≡ now ∷ rest
-  is : IsPart names cells part now
+  is : IsPartBehind names cells o.last part now
 
-next_part : (names : List (List ℕ)) (cells : List Cell) (parts : List CodePart) (count : ℕ) (part : CodePart) (o : Open) → AreLeft names cells parts count o.after → slice_get parts count ≡ Some part
+next_part : (names : List (List ℕ)) (cells : List Cell) (parts : List CodePart) (count : ℕ) (part : CodePart) (o : Open) → AreLeft names cells parts count o.last o.after → slice_get parts count ≡ Some part
     → NextPart names cells part o
 next_part names cells parts count part o l found = by o.after refl l.are
   where
     found_at : slice_get (l.past ++ l.rest) (length l.past) ≡ Some part
     found_at = ap (λ x. slice_get x (length l.past)) (sym l.split) ∙ ap (λ n. slice_get parts n) l.counted ∙ found
 
-    by : (after : List Part) → o.after ≡ after → AreParts names cells l.rest after → NextPart names cells part o
+    by : (after : List Part) → o.after ≡ after → AreParts names cells o.last l.rest after → NextPart names cells part o
     by [] e a =
         let none : slice_get (l.past ++ l.rest) (length l.past) ≡ None = ap (λ x. slice_get (l.past ++ x) (length l.past)) a ∙ past_end l.past in
         let q : None ≡ Some part = sym none ∙ found_at in absurd (cc)
     by (p ∷ ps) e a =
         let some : slice_get (l.past ++ l.rest) (length l.past) ≡ Some a.0 = ap (λ x. slice_get (l.past ++ x) (length l.past)) a.2 ∙ seam l.past a.0 a.1 in
-        record { now = p; rest = ps; after = e; is = subst (λ c. IsPart names cells c p) (same_Some a.0 part (sym some ∙ found_at)) a.3 }
+        record { now = p; rest = ps; after = e; is = subst (λ c. IsPartBehind names cells o.last c p) (same_Some a.0 part (sym some ∙ found_at)) a.3 }
 
-inner_scope : (old mid : Expansion) (binds : List LocalName) (first : ℕ) (o : Open) (ns : List Name) → Binds old mid binds first → old.scope ≡ o.at → IsScope old.shared.names o.at o.around
-    → AreNames old.shared.names binds ns → IsScope mid.shared.names mid.scope (within o.around ns)
-inner_scope old mid binds first o ns b at scope are =
-    let here : IsScope old.shared.names old.scope o.around = subst (λ a. IsScope old.shared.names a o.around) (sym at) scope in
-    let inside : IsScope old.shared.names mid.scope (within o.around ns) = record {
-      locals = subst (λ l. AreNames old.shared.names l (ns ++ o.around.locals)) (sym b.names) (AreNames-append old.shared.names binds _ ns o.around.locals are here.locals);
-      table = subst (λ t. IsTable old.shared.names t o.around.defined) (sym b.table) here.table;
-    } in
-    subst (λ s. IsScope s.names mid.scope (within o.around ns)) (sym b.same.shared) inside
-
-waits : (old mid new : Expansion) (part : CodePart) (w : Waiting) (o top : Open) (n : NextPart old.shared.names old.forms part o) (tail : Bool) → Binds old mid part.binds.items w.vars.first → old.scope ≡ o.at
-    → w.vars.count ≡ length part.binds.items → top.at ≡ mid.scope → top.around ≡ within o.around n.now.binds → SameForm (within o.around n.now.binds) n.now.form top.form → tail ≡ w.tail → WaitsFor w o top tail
-waits old mid new part w o top n tail b at count top_at top_around same tail_is = record {
-  now = n.now;
-  rest = n.rest;
-  after = n.after;
+waits : (names : List (List ℕ)) (at : Around) (w : Waiting) (o top : Open) (now : Part) (rest : List Part) (tail : Bool) → o.after ≡ now ∷ rest → Inside names at o.at o.around now.binds w.vars
+    → top.at ≡ at → top.around ≡ within o.around now.binds → SameForm (within o.around now.binds) now.form top.form → tail ≡ w.tail → WaitsFor w o top tail
+waits names at w o top now rest tail after inside top_at top_around same tail_is = record {
+  now = now;
+  rest = rest;
+  after = after;
   around = top_around;
-  vars = ap vars_of top_at ∙ b.vars ∙ ap (λ k. numbered w.vars.first k ++ vars_of old.scope) (sym count) ∙ ap (λ a. variables_of w.vars ++ vars_of a) at;
-  count = length-AreNames old.shared.names part.binds.items n.now.binds (n.is).0 ∙ sym count ∙ sym (length-numbered w.vars.first w.vars.count);
-  outer = ap (without w.vars.count) top_at ∙ ap (λ k. without k mid.scope) count ∙ ap (λ l. record { locals = l; table = mid.scope.table }) b.outer
-      ∙ ap (λ t. record { locals = old.scope.locals; table = t }) b.table ∙ at;
-  same = subst (λ s. SameForm s n.now.form top.form) (sym top_around) same;
+  vars = ap vars_of top_at ∙ inside.vars;
+  count = inside.count;
+  outer = ap (without w.vars.count) top_at ∙ inside.outside;
+  same = subst (λ s. SameForm s now.form top.form) (sym top_around) same;
   tail_is = tail_is;
 }
 
@@ -213,36 +212,41 @@ tracked root before after o top below now rest are around none_yet is same first
     stands_by r (inr (inr b)) = t.stands r (inr b)
 
 pub enters : (root : Root) (old mid new : Expansion) (before all : List Waiting) (f inner : Frame) (w : Waiting) (part : CodePart) → IsUnder root old before f
-    → slice_get f.parts.items (length f.done.items) ≡ Some part → Binds old mid part.binds.items w.vars.first → w.vars.count ≡ length part.binds.items → w.frame ≡ f → all ≡ before ++ w ∷ []
-    → Grows mid new → new.scope ≡ mid.scope → inner.tail ≡ w.tail
+    → slice_get f.parts.items (length f.done.items) ≡ Some part → SameBut old mid
+    → ((at : Around) (around : Scope) (last bound : List Name) → IsScope old.shared.names at around → Inside old.shared.names old.scope at around last f.bound
+    → AreBinds old.shared.names last part.binds bound → Inside old.shared.names mid.scope at around bound w.vars)
+    → w.frame ≡ f → all ≡ before ++ w ∷ [] → Grows mid new → new.scope ≡ mid.scope → inner.tail ≡ w.tail
     → ((d : Datum) (around : Scope) → Held mid.shared.names mid.forms part.form d → IsScope mid.shared.names mid.scope around → Opens mid new around d inner) → IsUnder root new all inner
-enters root old mid new before all f inner w part u found b count frame_is all_is grows scope_is tail_is opens =
+enters root old mid new before all f inner w part u found b binds frame_is all_is grows scope_is tail_is opens =
     let o = u.top in
     let n = next_part old.shared.names old.forms f.parts.items (length f.done.items) part o u.opened.left found in
     let held : Held mid.shared.names mid.forms part.form n.now.form =
-    subst (λ c. Held mid.shared.names c part.form n.now.form) (sym b.same.forms) (subst (λ s. Held s.names old.forms part.form n.now.form) (sym b.same.shared) (n.is).1) in
-    let opened = opens n.now.form (within o.around n.now.binds) held (inner_scope old mid part.binds.items w.vars.first o n.now.binds b u.scope u.opened.scope (n.is).0) in
+    subst (λ c. Held mid.shared.names c part.form n.now.form) (sym b.forms) (subst (λ s. Held s.names old.forms part.form n.now.form) (sym b.shared) (n.is).1) in
+    let inside = binds o.at o.around o.last n.now.binds u.opened.scope u.inside (n.is).0 in
+    let scope : IsScope mid.shared.names mid.scope (within o.around n.now.binds) = subst (λ s. IsScope s.names mid.scope (within o.around n.now.binds)) (sym b.shared) inside.scope in
+    let opened = opens n.now.form (within o.around n.now.binds) held scope in
     let top = opened.top in
-    let wider : Grows old new = Grows_trans old mid new (SameBut-Grows old mid b.same) grows in
+    let wider : Grows old new = Grows_trans old mid new (SameBut-Grows old mid b) grows in
     let here : IsOpen new w.frame o = subst (λ x. IsOpen new x o) (sym frame_is) (IsOpen-Grows old new wider f o u.opened) in
     let rest : Stacked new root before o w.frame.tail u.below = subst (λ x. Stacked new root before o x.tail u.below) (sym frame_is) (Stacked-Grows old new wider root before o f.tail u.below u.stacked) in
     record {
       top = top;
       below = o ∷ u.below;
       opened = opened.opened;
-      scope = scope_is ∙ sym opened.at;
-      stacked = (before, w, all_is, here, waits old mid new part w o top n inner.tail b u.scope count opened.at opened.around_is opened.same tail_is, rest);
+      inside = inside_none new.shared.names new.scope top.at top.around top.last inner.bound (scope_is ∙ sym opened.at) opened.last opened.bound opened.opened.scope;
+      stacked = (before, w, all_is, here, waits old.shared.names mid.scope w o top n.now n.rest inner.tail n.after inside opened.at opened.around_is opened.same tail_is, rest);
       tracks = tracked root old.first new.first o top u.below n.now n.rest n.after opened.around_is opened.before opened.opened.row_is opened.same
-          (subst (λ x. IsFirst x top.refusals new.first) b.same.first opened.first) u.tracks;
+          (subst (λ x. IsFirst x top.refusals new.first) b.first opened.first) u.tracks;
     }
 
 -- ---- closing a node
 
 -- no part is left
-none_after : (names : List (List ℕ)) (cells : List Cell) (parts : List CodePart) (count : ℕ) (after : List Part) → length parts ≤ count → AreLeft names cells parts count after → after ≡ []
-none_after names cells parts count after le l = by after l.are
+none_after : (names : List (List ℕ)) (cells : List Cell) (parts : List CodePart) (count : ℕ) (last : List Name) (after : List Part) → length parts ≤ count
+    → AreLeft names cells parts count last after → after ≡ []
+none_after names cells parts count last after le l = by after l.are
   where
-    by : (ps : List Part) → AreParts names cells l.rest ps → ps ≡ []
+    by : (ps : List Part) → AreParts names cells last l.rest ps → ps ≡ []
     by [] a = refl
     by (p ∷ ps) a =
         let e : length parts ≡ length l.past + length l.rest = ap length l.split ∙ length-append l.past l.rest in
@@ -264,17 +268,18 @@ closed_tracks root first top below none t = record {
 
 -- the node of an open form is at a place, where nothing is refused
 pub closes : (root : Root) (old new : Expansion) (waiting : List Waiting) (f : Frame) (key : ℕ) → IsUnder root old waiting f → length f.parts.items ≤ length f.done.items → Grows old new
-    → new.scope ≡ old.scope → new.first ≡ old.first
+    → new.scope ≡ without f.bound.count old.scope → new.first ≡ old.first
     → (new.first ≡ None → (node_ : Core) × (slice_get new.nodes.nodes key ≡ Some node_) × (slice_get new.nodes.spans key ≡ Some f.span) × (parts_of node_ f.tail ≡ map part_of f.done.items)
     × ((top : Open) → IsOpen old f top → Fits new.shared (vars_of top.at) f.tail top.shape node_))
     → IsBack root new waiting key
 closes root old new waiting f key u le grows scope_is first_is made =
-    let none = none_after old.shared.names old.forms f.parts.items (length f.done.items) u.top.after le u.opened.left in
+    let none = none_after old.shared.names old.forms f.parts.items (length f.done.items) u.top.last u.top.after le u.opened.left in
     record {
       top = u.top;
       tail = f.tail;
       below = u.below;
-      scope = scope_is ∙ u.scope;
+      scope = scope_is ∙ u.inside.outside;
+      around = subst (λ n. IsScope n u.top.at u.top.around) (sym grows.shared.names) u.opened.scope;
       made = λ e. by e (made e);
       stacked = Stacked-Grows old new grows root waiting u.top f.tail u.below u.stacked;
       tracks = subst (λ x. Tracks root x (Behind u.below)) (sym first_is) (closed_tracks root old.first u.top u.below none u.tracks);
@@ -287,7 +292,7 @@ closes root old new waiting f key u le grows scope_is first_is made =
     by e m =
         let o = u.top in
         let i : IsOpen new f o = IsOpen-Grows old new grows f o u.opened in
-        let none = none_after old.shared.names old.forms f.parts.items (length f.done.items) o.after le u.opened.left in
+        let none = none_after old.shared.names old.forms f.parts.items (length f.done.items) o.last o.after le u.opened.left in
         let is : row o.around o.form ≡ node o.shape [] o.before =
         i.row_is ∙ ap (λ l. node o.shape l (o.before ++ o.after)) (i.refused e) ∙ ap (λ l. node o.shape [] (o.before ++ l)) none ∙ ap (λ l. node o.shape [] l) (append-nil o.before) in
         as_node (vars_of o.at) o.around o.form f.tail key o.shape o.before m.0 is m.1 (m.2 ∙ ap Some i.span) (m.4 o u.opened)
@@ -295,18 +300,19 @@ closes root old new waiting f key u le grows scope_is first_is made =
 
 -- ---- leaving a part
 
--- the frame with one more part done
+-- the frame with one more part done, whose names stay bound
 pub record OneMore (f g : Frame) (d : Done) : Type 0 where
   pub shape : g.shape ≡ f.shape
   pub span : g.span ≡ f.span
   pub tail : g.tail ≡ f.tail
   pub parts : g.parts ≡ f.parts
   pub done : g.done.items ≡ f.done.items ++ d ∷ []
+  pub bound : g.bound ≡ d.vars
 
-one_less : (names : List (List ℕ)) (cells : List Cell) (parts : List CodePart) (count : ℕ) (after : List Part) (now : Part) (rest : List Part) → after ≡ now ∷ rest → AreLeft names cells parts count after
-    → AreLeft names cells parts (count + 1) rest
-one_less names cells parts count after now rest e l =
-    let a : AreParts names cells l.rest (now ∷ rest) = subst (λ x. AreParts names cells l.rest x) e l.are in
+one_less : (names : List (List ℕ)) (cells : List Cell) (parts : List CodePart) (count : ℕ) (last : List Name) (after : List Part) (now : Part) (rest : List Part) → after ≡ now ∷ rest
+    → AreLeft names cells parts count last after → AreLeft names cells parts (count + 1) now.binds rest
+one_less names cells parts count last after now rest e l =
+    let a : AreParts names cells last l.rest (now ∷ rest) = subst (λ x. AreParts names cells last l.rest x) e l.are in
     record {
       past = l.past ++ a.0 ∷ [];
       rest = a.1;
@@ -317,7 +323,7 @@ one_less names cells parts count after now rest e l =
 
 -- the open form with its next part done
 abbrev advanced : Open → Part → List Part → Open
-advanced o now rest = record { at = o.at; around = o.around; form = o.form; shape = o.shape; refusals = o.refusals; before = o.before ++ now ∷ []; after = rest }
+advanced o now rest = record { at = o.at; around = o.around; form = o.form; shape = o.shape; refusals = o.refusals; before = o.before ++ now ∷ []; last = now.binds; after = rest }
 
 stacked_alike : (e : Expansion) (root : Root) (waiting : List Waiting) (o p : Open) (tail : Bool) (os : List Open) → p.around ≡ o.around → p.at ≡ o.at → p.form ≡ o.form
     → Stacked e root waiting o tail os → Stacked e root waiting p tail os
@@ -360,10 +366,10 @@ advanced_tracks root first o now rest below e t = record {
 
 -- a part of the innermost open form that waits is done
 done_part : (root : Root) (old new : Expansion) (front : List Waiting) (w : Waiting) (g : Frame) (key : ℕ) (d : Done) (top o : Open) (tail : Bool) (os : List Open)
-    → SameBut old new → old.scope ≡ top.at → new.scope ≡ without w.vars.count old.scope → OneMore w.frame g d → d ≡ record { at = key; vars = w.vars; tail = w.tail }
+    → SameBut old new → old.scope ≡ top.at → IsScope old.shared.names top.at top.around → new.scope ≡ old.scope → OneMore w.frame g d → d ≡ record { at = key; vars = w.vars; tail = w.tail }
     → IsOpen old w.frame o → WaitsFor w o top tail → Stacked old root front o w.frame.tail os
     → (old.first ≡ None → Means old.shared old.nodes (vars_of top.at) top.around top.form tail key) → Tracks root old.first (Behind (o ∷ os)) → IsUnder root new front g
-done_part root old new front w g key d top o tail os same scope outer more is i waits stacked made t =
+done_part root old new front w g key d top o tail os same scope around stays more is i waits stacked made t =
     let grows = SameBut-Grows old new same in
     let j : IsOpen new w.frame o = IsOpen-Grows old new grows w.frame o i in
     let next = advanced o waits.now waits.rest in
@@ -376,20 +382,32 @@ done_part root old new front w g key d top o tail os same scope outer more is i 
         row_is = j.row_is ∙ ap (λ l. node o.shape o.refusals (o.before ++ l)) waits.after ∙ ap (λ l. node o.shape o.refusals l) (sym (append_assoc o.before (waits.now ∷ []) waits.rest));
         span = more.span ∙ j.span;
         shape = subst (λ s. IsShape new.shared.names new.forms (vars_of o.at) s o.shape) (sym more.shape) j.shape;
-        left = subst (λ n. AreLeft new.shared.names new.forms g.parts.items n waits.rest) (sym counted)
-            (subst (λ p. AreLeft new.shared.names new.forms p.items (length w.frame.done.items + 1) waits.rest) (sym more.parts)
-            (one_less new.shared.names new.forms w.frame.parts.items (length w.frame.done.items) o.after waits.now waits.rest waits.after j.left));
+        left = subst (λ n. AreLeft new.shared.names new.forms g.parts.items n waits.now.binds waits.rest) (sym counted)
+            (subst (λ p. AreLeft new.shared.names new.forms p.items (length w.frame.done.items + 1) waits.now.binds waits.rest) (sym more.parts)
+            (one_less new.shared.names new.forms w.frame.parts.items (length w.frame.done.items) o.last o.after waits.now waits.rest waits.after j.left));
         refused = j.refused;
         made = λ e. subst (λ l. AllMean new.shared new.nodes (vars_of o.at) o.around (o.before ++ waits.now ∷ []) l)
             (sym (ap (map part_of) more.done ∙ map-append part_of w.frame.done.items (d ∷ [])))
             (AllMean-push new.shared new.nodes (vars_of o.at) o.around waits.now (part_of d) (waits.count ∙ ap (λ x. length (variables_of x.vars)) (sym is)) (here e) o.before _ (j.made e));
       };
-      scope = outer ∙ ap (without w.vars.count) scope ∙ waits.outer;
+      inside = subst (λ x. Inside new.shared.names new.scope o.at o.around waits.now.binds x) (sym (more.bound ∙ ap (λ x. x.vars) is)) still;
       stacked = stacked_alike new root front o next g.tail os refl refl refl
           (subst (λ b. Stacked new root front o b os) (sym more.tail) (Stacked-Grows old new grows root front o w.frame.tail os stacked));
       tracks = subst (λ f. Tracks root f (left_under next os)) (sym same.first) (advanced_tracks root old.first o waits.now waits.rest os waits.after t);
     }
   where
+    there_at : new.scope ≡ top.at
+    there_at = stays ∙ scope
+
+    still : Inside new.shared.names new.scope o.at o.around waits.now.binds w.vars
+    still = record {
+      scope = subst (λ s. IsScope s.names new.scope (within o.around waits.now.binds)) (sym same.shared)
+          (subst (λ a. IsScope old.shared.names a (within o.around waits.now.binds)) (sym there_at) (subst (λ s. IsScope old.shared.names top.at s) waits.around around));
+      vars = ap vars_of there_at ∙ waits.vars;
+      count = waits.count;
+      outside = ap (without w.vars.count) there_at ∙ waits.outer;
+    }
+
     there : old.first ≡ None → Means new.shared new.nodes (vars_of top.at) top.around waits.now.form tail key
     there e = waits.same.means new.shared new.nodes (vars_of top.at) tail key
         (subst (λ s. Means s new.nodes (vars_of top.at) top.around top.form tail key) (sym same.shared)
@@ -403,14 +421,14 @@ done_part root old new front w g key d top o tail os same scope outer more is i 
         (subst (λ s. Means new.shared new.nodes (vars_of top.at) s waits.now.form tail key) waits.around (there (sym same.first ∙ e)))))
 
 pub leaves : (root : Root) (old new : Expansion) (all front : List Waiting) (w : Waiting) (g : Frame) (key : ℕ) (d : Done) → all ≡ front ++ w ∷ [] → SameBut old new
-    → new.scope ≡ without w.vars.count old.scope → OneMore w.frame g d → d ≡ record { at = key; vars = w.vars; tail = w.tail } → IsBack root old all key → IsUnder root new front g
-leaves root old new all front w g key d all_is same outer more is b = by b.below b.stacked b.tracks
+    → new.scope ≡ old.scope → OneMore w.frame g d → d ≡ record { at = key; vars = w.vars; tail = w.tail } → IsBack root old all key → IsUnder root new front g
+leaves root old new all front w g key d all_is same stays more is b = by b.below b.stacked b.tracks
   where
     by : (os : List Open) → Stacked old root all b.top b.tail os → Tracks root old.first (Behind os) → IsUnder root new front g
     by [] s t = absurd (no_push front w (sym s.0 ∙ all_is))
     by (o ∷ os) s t =
         let e = same_from_push s.0 front s.1 w (sym s.2 ∙ all_is) in
-        done_part root old new front w g key d b.top o b.tail os same b.scope outer more is (subst (λ x. IsOpen old x.frame o) e.1 s.3) (subst (λ x. WaitsFor x o b.top b.tail) e.1 s.4)
+        done_part root old new front w g key d b.top o b.tail os same b.scope b.around stays more is (subst (λ x. IsOpen old x.frame o) e.1 s.3) (subst (λ x. WaitsFor x o b.top b.tail) e.1 s.4)
         (subst (λ x. Stacked old root front o x.frame.tail os) e.1 (subst (λ x. Stacked old root x o (s.1).frame.tail os) e.0 s.5)) b.made t
 
 -- nothing waits
@@ -446,7 +464,7 @@ begins root old new f opens scope at first tail =
       top = top;
       below = [];
       opened = opens.opened;
-      scope = scope ∙ sym opens.at;
+      inside = inside_none new.shared.names new.scope top.at top.around top.last f.bound (scope ∙ sym opens.at) opens.last opens.bound opens.opened.scope;
       stacked = (refl, opens.around_is, opens.at ∙ at, opens.same, tail);
       tracks = record {
         known = λ r e. known_by r (opens.first.known r e);

@@ -1,7 +1,7 @@
 -- How the form under way stands in the form that is expanded, what is made of it, and what is still to be looked at.
 use Rattle.std.specs.Prelude.{◌≡◌, ◌⊎◌, ℕ, Bool, false, List, [], ◌∷◌, ◌++◌, map, length, drop, Contains, Option, Some, None}
 use Rattle.t_forms.specs.declared.arena.Cell.{Cell}
-use Rattle.t_forms.specs.Data.{Datum, span_of}
+use Rattle.t_forms.specs.Data.{Datum, Name, span_of}
 use Rattle.t_forms.specs.Names.{Scope, within}
 use Rattle.t_forms.specs.Held.{Held, Around, vars_of, IsScope}
 use Rattle.t_rows.specs.declared.refusal.Refusal.{Refusal}
@@ -15,6 +15,7 @@ use Rattle.t_expand.specs.Building.{part_of, variables_of}
 use Rattle.t_expand.specs.Expanding.{IsCovered, IsFirst}
 use Rattle.t_base.specs.declared.basics.Var.{Var}
 use Rattle.t_base.specs.declared.shared_parts.Shared.{Shared}
+use Rattle.t_expand.specs.declared.build.Fresh.{Fresh}
 use Rattle.t_expand.specs.declared.driver_state.Expansion.{Expansion}
 use Rattle.t_expand.specs.declared.driver.Frame.{Frame}
 use Rattle.t_expand.specs.declared.driver.NodeRow.{NodeRow}
@@ -35,7 +36,8 @@ pub record Root : Type 0 where
   pub form : Datum
   pub first : Option Refusal
 
--- a form that stands for a node, what is around it, and the parts of the node: those that are there before the rest
+-- a form that stands for a node, what is around it, and the parts of the node: those that are there before the rest, and the names that
+-- are bound around the last of them
 pub record Open : Type 0 where
   pub at : Around
   pub around : Scope
@@ -43,15 +45,16 @@ pub record Open : Type 0 where
   pub shape : Shape
   pub refusals : List Refusal
   pub before : List Part
+  pub last : List Name
   pub after : List Part
 
--- these parts are left after a count of them
-pub record AreLeft (names : List (List ℕ)) (cells : List Cell) (parts : List CodePart) (count : ℕ) (after : List Part) : Type 0 where
+-- these parts are left after a count of them, of which the last one has these names
+pub record AreLeft (names : List (List ℕ)) (cells : List Cell) (parts : List CodePart) (count : ℕ) (last : List Name) (after : List Part) : Type 0 where
   pub past : List CodePart
   pub rest : List CodePart
   pub split : parts ≡ past ++ rest
   pub counted : length past ≡ count
-  pub are : AreParts names cells rest after
+  pub are : AreParts names cells last rest after
 
 -- the frame is the open form's
 pub record IsOpen (e : Expansion) (f : Frame) (o : Open) : Type 0 where
@@ -59,13 +62,20 @@ pub record IsOpen (e : Expansion) (f : Frame) (o : Open) : Type 0 where
   pub row_is : row o.around o.form ≡ node o.shape o.refusals (o.before ++ o.after)
   pub span : f.span ≡ span_of o.form
   pub shape : IsShape e.shared.names e.forms (vars_of o.at) f.shape o.shape
-  pub left : AreLeft e.shared.names e.forms f.parts.items (length f.done.items) o.after
+  pub left : AreLeft e.shared.names e.forms f.parts.items (length f.done.items) o.last o.after
   pub refused : e.first ≡ None → o.refusals ≡ []
   pub made : e.first ≡ None → AllMean e.shared e.nodes (vars_of o.at) o.around o.before (map part_of f.done.items)
 
 -- without the innermost bindings
 abbrev pub without : ℕ → Around → Around
 without count at = record { locals = drop count at.locals; table = at.table }
+
+-- names are bound to variables, and nothing more, between these places
+pub record Inside (names : List (List ℕ)) (at outer : Around) (around : Scope) (bound : List Name) (fresh : Fresh) : Type 0 where
+  pub scope : IsScope names at (within around bound)
+  pub vars : vars_of at ≡ variables_of fresh ++ vars_of outer
+  pub count : length bound ≡ length (variables_of fresh)
+  pub outside : without fresh.count at ≡ outer
 
 -- the open form waits for its next part, which the inner form stands for
 pub record WaitsFor (w : Waiting) (o inner : Open) (tail : Bool) : Type 0 where
@@ -116,7 +126,7 @@ pub record IsUnder (root : Root) (e : Expansion) (waiting : List Waiting) (f : F
   pub top : Open
   pub below : List Open
   pub opened : IsOpen e f top
-  pub scope : e.scope ≡ top.at
+  pub inside : Inside e.shared.names e.scope top.at top.around top.last f.bound
   pub stacked : Stacked e root waiting top f.tail below
   pub tracks : Tracks root e.first (left_under top below)
 
@@ -126,6 +136,7 @@ pub record IsBack (root : Root) (e : Expansion) (waiting : List Waiting) (key : 
   pub tail : Bool
   pub below : List Open
   pub scope : e.scope ≡ top.at
+  pub around : IsScope e.shared.names top.at top.around
   pub made : e.first ≡ None → Means e.shared e.nodes (vars_of top.at) top.around top.form tail key
   pub stacked : Stacked e root waiting top tail below
   pub tracks : Tracks root e.first (Behind below)
@@ -156,5 +167,7 @@ pub record Opens (old new : Expansion) (around : Scope) (d : Datum) (f : Frame) 
   pub at : top.at ≡ old.scope
   pub around_is : top.around ≡ around
   pub before : top.before ≡ []
+  pub last : top.last ≡ []
+  pub bound : f.bound.count ≡ 0
   pub same : SameForm around d top.form
   pub first : IsFirst old.first top.refusals new.first

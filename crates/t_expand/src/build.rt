@@ -24,7 +24,7 @@ pub struct Done {
     pub tail: bool,
 }
 
-const NO_VARS: Fresh = Fresh { first: 0, count: 0 };
+pub const NO_VARS: Fresh = Fresh { first: 0, count: 0 };
 
 /// The variables as a list.
 #[tactic(auto, using(crate::proofs::NodeLemmas::numbered_push))]

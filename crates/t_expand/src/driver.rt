@@ -1,23 +1,25 @@
 // One form becomes nodes: a stack of nodes under way, whose parts are looked at one after the other.
 ghost use Rattle.std.specs.Prelude.{◌≡◌, ◌≢◌, ◌<◌, ◌≤◌, ◌+◌, ◌^◌, ◌++◌, [], List, map, length, drop, vec_len, AllPairs, IfOk, OnOk};
-ghost use Rattle.t_forms.specs.Data.{Datum};
+ghost use Rattle.t_forms.specs.Data.{Datum, Name};
 ghost use Rattle.t_forms.specs.Names.{Scope as SpecScope};
-ghost use Rattle.t_forms.specs.Held.{Held, IsScope, Extends};
+ghost use Rattle.t_forms.specs.Held.{Held, IsScope, Extends, Around};
 ghost use Rattle.t_expand.specs.Building.{numbered};
 ghost use Rattle.t_expand.specs.Expanding.{Grows, Expands};
-ghost use Rattle.t_expand.specs.Driving.{Root, IsUnder, IsBack, IsEnd, IsNext, Finds, Opens};
+ghost use Rattle.t_rows.specs.Given.{AreBinds};
+ghost use Rattle.t_expand.specs.Driving.{Root, Inside, IsUnder, IsBack, IsEnd, IsNext, Finds, Opens};
 ghost use Rattle.t_expand.specs.declared.driver.Waiting.{Waiting as SpecWaiting};
 
-use crate::build::{Done, Fresh, leaf, node};
+use crate::build::{Done, Fresh, NO_VARS, leaf, node};
 use crate::driver_first::noted;
 use crate::driver_state::Expansion;
 use crate::quoted::constant_of;
 use t_base::{Memory, Names, Span, Var};
 use t_core::Core;
 use t_forms::{Forms, LocalName, Scope};
-use t_rows::{Part, Refusal, Row, Shape, row};
+use t_rows::{Binds, Part, Refusal, Row, Shape, row};
 
-/// A node under way: its parts, and the places of the nodes that the first of them stand for.
+/// A node under way: its parts, the places of the nodes that the first of them stand for, and the variables of the last of these, which
+/// are still bound.
 #[derive(Drop)]
 pub struct Frame {
     pub shape: Shape,
@@ -25,6 +27,7 @@ pub struct Frame {
     pub tail: bool,
     pub parts: Vec<Part>,
     pub done: Vec<Done>,
+    pub bound: Fresh,
 }
 
 /// A form by its place, with the node of its row.
@@ -145,6 +148,26 @@ impl Expansion {
         Ok(vars)
     }
 
+    /// Binds the names around a part in the place of those around the part before, and gives their variables. Where they are the same
+    /// names they stay bound.
+    fn bind_part(&mut self, frame: &Frame, binds: &Binds) -> Result<Fresh, Memory>
+        ensures rest { OnOk result (self.new ≡ record self.old { next = self.new.next; scope = self.new.scope }) }
+        ensures inside { (at : Around) (around : SpecScope) (last : List Name) (bound : List Name) → IsScope self.old.shared.names at around → Inside self.old.shared.names self.old.scope at around last frame.now.bound → AreBinds self.old.shared.names last binds.now bound → IfOk result (Inside self.old.shared.names self.new.scope at around bound) }
+    {
+        match binds {
+            Binds::AsBefore => Ok(frame.bound),
+            Binds::Names(names) => {
+                unbind_all(&mut self.scope, frame.bound.count);
+                let Ok(count) = u32::try_from(names.len()) else {
+                    return Err(Memory);
+                };
+                let vars = self.variables_for(frame, count)?;
+                bind_all(&mut self.scope, names.as_slice(), vars.first)?;
+                Ok(vars)
+            }
+        }
+    }
+
     /// The node that the form at a place stands for, none of its parts being looked at yet. What is refused at the form is noted.
     fn opened(&mut self, key: u32, tail: bool) -> Result<Frame, Memory>
         ensures grows { OnOk result (Grows self.old self.new) }
@@ -164,6 +187,7 @@ impl Expansion {
             tail,
             parts: found.parts,
             done: Vec::new(self.alloc),
+            bound: NO_VARS,
         })
     }
 
@@ -176,11 +200,7 @@ impl Expansion {
         let index = frame.done.len();
         let part = &frame.parts[index];
         let form = part.form;
-        let Ok(count) = u32::try_from(part.binds.len()) else {
-            return Err(Memory);
-        };
-        let vars = self.variables_for(&frame, count)?;
-        bind_all(&mut self.scope, part.binds.as_slice(), vars.first)?;
+        let vars = self.bind_part(&frame, &part.binds)?;
         let tail = is_tail_part(
             &frame.shape,
             frame.tail,
@@ -198,6 +218,7 @@ impl Expansion {
         ensures grows { OnOk result (Grows self.old self.new) }
         ensures back { (root : Root) (waiting : List SpecWaiting) → IsUnder root self.old waiting frame → IfOk result (IsBack root self.new waiting) }
     {
+        unbind_all(&mut self.scope, frame.bound.count);
         if self.first.is_some() {
             return Ok(0);
         }
@@ -216,7 +237,7 @@ impl Expansion {
         }
     }
 
-    /// Goes on behind a part whose node is at a place.
+    /// Goes on behind a part whose node is at a place. The names around the part stay bound.
     fn leave(&mut self, waiting: &mut Vec<Waiting>, key: u32) -> Result<Step, Memory>
         ensures grows { OnOk result (Grows self.old self.new) }
         ensures next { (root : Root) → IsBack root self.old waiting.old.items key → IfOk result (IsNext root self.new waiting.new.items) }
@@ -230,7 +251,7 @@ impl Expansion {
                     tail,
                 },
             ) => {
-                unbind_all(&mut self.scope, vars.count);
+                frame.bound = vars;
                 frame.done.push(Done {
                     at: key,
                     vars,

@@ -1,12 +1,12 @@
 -- Bindings.
-use Rattle.std.proofs.Common.{◌≡◌, ℕ, List, [], ◌∷◌, ◌++◌, length, map, Option, Some, None, is_none, if◌then◌else◌, refl, sym, ap, ◌∙◌, arith}
+use Rattle.std.proofs.Common.{◌≡◌, ℕ, List, [], ◌∷◌, length, Option, Some, None, is_none, if◌then◌else◌, refl, sym, arith}
 use Rattle.std.specs.List.{AllZip}
 use Rattle.std.specs.Option.{option_map}
 use Rattle.t_base.specs.declared.basics.Span.{Span}
 use Rattle.t_reader.specs.Grammar.{fix, char, nil, truth, string, symbol}
 use Rattle.t_objects.specs.declared.words.Word.{Word}
 use Rattle.t_objects.specs.Words.{word_named}
-use Rattle.t_forms.specs.Data.{given, variable, Datum, atom, cons, written, made, Name, Binder, binder, binder_of, items_of}
+use Rattle.t_forms.specs.Data.{given, variable, Datum, atom, written, made, Binder, binder, binder_of, items_of}
 use Rattle.t_forms.specs.declared.arena.Cell.{Cell}
 use Rattle.t_rows.specs.declared.names.Binding.{Binding as CodeBinding}
 use Rattle.t_rows.specs.Bindings.{IsBinding}

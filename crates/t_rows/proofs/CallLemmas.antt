@@ -1,5 +1,5 @@
 -- Calls, by what their operators mean.
-use Rattle.std.proofs.Common.{◌≡◌, ◌==◌, ℕ, Bool, true, false, List, [], ◌∷◌, length, slice_get, Option, Some, None, if◌then◌else◌, refl, ap, map, eq-eqb}
+use Rattle.std.proofs.Common.{◌≡◌, List, [], length, None, refl, map, eq-eqb}
 use Rattle.std.proofs.lemmas.Bool.{ne_eqb}
 use Rattle.t_base.specs.declared.basics.Span.{Span}
 use Rattle.t_base.specs.declared.basics.Var.{Var}
@@ -7,13 +7,13 @@ use Rattle.t_base.specs.declared.builtins.Builtin.{Builtin}
 use Rattle.t_base.specs.declared.builtins.Builtin.TheVariants as Builtins
 use Rattle.t_prim.specs.Table.{arity_of}
 use Rattle.t_forms.specs.declared.scope.Meant.{Meant}
-use Rattle.t_forms.specs.Data.{builtin, listing, Datum, atom, cons}
+use Rattle.t_forms.specs.Data.{builtin, listing, Datum, atom}
 use Rattle.t_forms.specs.Names.{Meaning, a_local, a_global, an_op, the_builtin, the_operation, the_truth, the_listing, none, Scope}
 use Rattle.t_forms.specs.Held.{IsMeaning}
 use Rattle.t_rows.specs.declared.calls.Operator.{Operator}
 use Rattle.t_rows.specs.declared.calls.Operator.TheVariants as operator
 use Rattle.t_rows.specs.Meant.{MeansAs, IsOperator, IsOperatorMeant, fixed_operator}
-use Rattle.t_rows.specs.Rows.{Row, meant, call_meant, call_row, call_node, builtin_row, builtin_call, fold_row, node, primitive, plain}
+use Rattle.t_rows.specs.Rows.{meant, call_meant, call_row, call_node, builtin_row, builtin_call, node, primitive, plain}
 
 pub means_as : (vars : List Var) (x : Meant) (m : Meaning) → IsMeaning vars x m → MeansAs vars x m
 means_as vars x (a_local i) h = rw h.1 (i, refl, h.2)

@@ -1,19 +1,17 @@
 -- The keys and clauses of CASE.
-use Rattle.std.proofs.Common.{◌≡◌, ℕ, Bool, true, false, ◌&&◌, if◌then◌else◌, List, [], ◌∷◌, ◌++◌, drop, length, get_or, slice_get, Option, Some, None, refl, sym, ap, ◌∙◌, subst, suc, arith, ◌<◌}
+use Rattle.std.proofs.Common.{◌≡◌, ℕ, Bool, true, false, ◌&&◌, List, [], ◌∷◌, ◌++◌, drop, length, get_or, slice_get, Option, Some, None, refl, sym, ap, ◌∙◌, subst, suc, arith, ◌<◌}
 use Rattle.std.specs.List.{AllZip, list_all}
-use Rattle.std.specs.Option.{option_map, option_and_then}
+use Rattle.std.specs.Option.{option_and_then}
 use Rattle.t_base.specs.declared.basics.Span.{Span}
 use Rattle.t_reader.specs.Grammar.{fix, char, nil, truth, string, symbol}
-use Rattle.t_objects.specs.declared.words.Word.{Word}
 use Rattle.t_objects.specs.Words.{word_named}
-use Rattle.t_forms.specs.declared.arena.Form.{Form}
 use Rattle.t_forms.specs.declared.arena.Cell.{Cell}
-use Rattle.t_forms.specs.Data.{given, variable, builtin, operation, listing, Datum, atom, cons, items_of, listed, a_nil, word_of}
-use Rattle.t_forms.specs.Held.{Held, IsSymbol}
+use Rattle.t_forms.specs.Data.{given, variable, builtin, operation, listing, Datum, atom, cons, items_of, a_nil}
+use Rattle.t_forms.specs.Held.{Held}
 use Rattle.t_rows.specs.Cases.{is_key_form, no_more}
 use Rattle.t_rows.specs.Definitions.{IsHeldIf}
 use Rattle.t_rows.specs.Lists.{IsShort}
-use Rattle.t_rows.specs.Rows.{Row, is_key, is_else, case_chosen, case_keys, case_last, case_clauses, case_row, no_row, body}
+use Rattle.t_rows.specs.Rows.{is_key, case_chosen, case_keys, case_last, case_clauses}
 use Rattle.t_rows.proofs.ZipLemmas.{ZipLast, zip_last}
 use Rattle.t_rows.proofs.ListLemmas.{same_form, spelling, a_word, a_place}
 

@@ -1,5 +1,5 @@
 -- Defining forms elsewhere than at top level.
-use Rattle.std.proofs.Common.{◌≡◌, ℕ, Bool, true, false, List, [], ◌∷◌, Option, Some, None, is_some, refl, ap, ◌∙◌}
+use Rattle.std.proofs.Common.{◌≡◌, ℕ, true, false, List, [], ◌∷◌, Option, Some, None, is_some, refl, ap, ◌∙◌}
 use Rattle.std.specs.Global.{Vec}
 use Rattle.t_rows.specs.Bindings.{IsAllOf}
 use Rattle.std.specs.Option.{option_map, option_and_then}

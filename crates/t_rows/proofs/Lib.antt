@@ -9,6 +9,7 @@ pub mod CallLemmas
 pub mod SortLemmas
 pub mod DefinitionLemmas
 pub mod TwiceLemmas
+pub mod NumberLemmas
 pub mod CondLemmas
 pub mod BindingLemmas
 pub mod SetLemmas

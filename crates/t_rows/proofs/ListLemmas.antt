@@ -11,8 +11,8 @@ use Rattle.t_forms.specs.declared.arena.Form.{Form}
 use Rattle.t_forms.specs.declared.arena.Form.TheVariants as form
 use Rattle.t_forms.specs.declared.arena.Cell.{Cell}
 use Rattle.t_forms.specs.declared.scope.LocalName.TheVariants as key
-use Rattle.t_forms.specs.Data.{Atom, given, variable, builtin, operation, listing, Datum, atom, cons, items_of, count_of, listed, name_of, written, made}
-use Rattle.t_forms.specs.Held.{cell, Held, Continues, AllHeld, IsSymbol}
+use Rattle.t_forms.specs.Data.{given, variable, builtin, operation, listing, Datum, atom, cons, items_of, count_of, written, made}
+use Rattle.t_forms.specs.Held.{cell, Held, Continues, IsSymbol}
 use Rattle.t_rows.specs.Lists.{AreItems, AreItemsOf, IsSplit, IsNameOf, IsHeadOf, is_pair}
 
 -- the form of a cell

@@ -1,17 +1,15 @@
 -- The rows of LOCATIVE.
-use Rattle.std.proofs.Common.{◌≡◌, ℕ, ◌+◌, Bool, true, false, List, [], ◌∷◌, ◌++◌, length, slice_get, Option, Some, None, refl, sym, ap, ◌∙◌, suc, add-one, arith}
+use Rattle.std.proofs.Common.{◌≡◌, ℕ, ◌+◌, true, false, List, [], ◌∷◌, ◌++◌, length, refl, ap, ◌∙◌, suc, arith}
 use Rattle.std.proofs.Common.{codes, length-append}
 use Rattle.std.specs.List.{AllZip}
 use Rattle.t_base.specs.declared.basics.Span.{Span}
-use Rattle.t_reader.specs.Grammar.{fix, char, nil, truth, string, symbol}
-use Rattle.t_objects.specs.declared.words.Word.{Word}
-use Rattle.t_objects.specs.Words.{word_named}
+use Rattle.t_reader.specs.Grammar.{symbol}
 use Rattle.t_forms.specs.declared.arena.New.TheVariants as new
 use Rattle.t_forms.specs.declared.arena.Cell.{Cell}
-use Rattle.t_forms.specs.Data.{given, variable, builtin, operation, listing, Datum, atom, cons, listed, items_of, name_of, a_variable}
+use Rattle.t_forms.specs.Data.{given, variable, Datum, atom, cons, listed, items_of, name_of, a_variable}
 use Rattle.t_forms.specs.Held.{Held}
-use Rattle.t_rows.specs.Lists.{Grows, AreHeld, is_symbol, is_pair}
-use Rattle.t_rows.specs.Rows.{Row, stands_for, word_, part_bindings, part_variables, locative_object, locative_call, locative_of, locative_items, locative_row, if_formed}
+use Rattle.t_rows.specs.Lists.{Grows, is_symbol, is_pair}
+use Rattle.t_rows.specs.Rows.{stands_for, word_, part_bindings, part_variables, locative_object, locative_call, locative_items, locative_row, if_formed}
 use Rattle.t_rows.proofs.ZipLemmas.{ZipLast, zip_last, zip_push}
 use Rattle.t_rows.proofs.Growth.{all_held_grow}
 

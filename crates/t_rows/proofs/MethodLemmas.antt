@@ -1,13 +1,13 @@
 -- The methods of OBJECT.
 use Rattle.std.proofs.Common.{◌≡◌, ℕ, List, [], ◌∷◌, ◌++◌, map, Option, Some, None, is_some, if◌then◌else◌, option_to_list, refl, sym, ap, ◌∙◌, append_assoc}
 use Rattle.std.specs.List.{AllZip, filter_map, flat_map}
-use Rattle.std.specs.Option.{option_map, option_and_then}
+use Rattle.std.specs.Option.{option_map}
 use Rattle.std.proofs.lemmas.List.{map-append, append-nil}
 use Rattle.std.proofs.lemmas.List.Elements.{filter_map-append}
 use Rattle.std.proofs.lemmas.Grind.{flat_map-append}
 use Rattle.t_base.specs.declared.basics.Span.{Span}
 use Rattle.t_forms.specs.declared.arena.Cell.{Cell}
-use Rattle.t_forms.specs.Data.{operation, Datum, atom, span_of, items_of, Binder, binders_of, names}
+use Rattle.t_forms.specs.Data.{operation, Datum, atom, span_of, Binder, binders_of, names}
 use Rattle.t_forms.specs.Names.{Scope}
 use Rattle.t_rows.specs.declared.object.Method.{Method as CodeMethod}
 use Rattle.t_rows.specs.declared.refusal.Refusal.{Refusal}
@@ -16,7 +16,7 @@ use Rattle.t_rows.specs.declared.rows.Part.{Part as CodePart}
 use Rattle.t_rows.specs.Given.{IsPart}
 use Rattle.t_rows.specs.Lists.{Grows, IsShort}
 use Rattle.t_rows.specs.Methods.{IsMethod, IsMethodIf, IsObject, method_of, method_part, fixed_operation}
-use Rattle.t_rows.specs.Rows.{Method, Part, refusal, twice, plain, inside, body, meant, method_of_head, method_of_items, operation_meant, operation_of, method_refusals}
+use Rattle.t_rows.specs.Rows.{Method, refusal, twice, plain, body, meant, method_of_head, method_of_items, operation_meant, operation_of, method_refusals}
 use Rattle.t_rows.proofs.Growth.{held_grows}
 use Rattle.t_rows.proofs.ZipLemmas.{zip_weaker}
 use Rattle.t_rows.proofs.AllLemmas.{AllSoFar}

@@ -1,9 +1,9 @@
 -- Rows of the table at lists of some length.
-use Rattle.std.proofs.Common.{◌≡◌, ℕ, Bool, true, false, List, [], ◌∷◌, Option, Some, None, refl}
+use Rattle.std.proofs.Common.{◌≡◌, true, false, List, [], ◌∷◌, refl}
 use Rattle.t_base.specs.declared.basics.Span.{Span}
 use Rattle.t_forms.specs.Data.{variable, Datum, atom}
 use Rattle.t_rows.specs.Lists.{IsShort, is_new}
-use Rattle.t_rows.specs.Rows.{Row, no_row, node, constant, quote_row, lambda_row}
+use Rattle.t_rows.specs.Rows.{Row, no_row, node, constant, quote_row}
 
 -- what holds of lists without a body
 pub short : (f : List Datum → Row) (r : Row) (ds : List Datum) → IsShort ds → f [] ≡ r → ((d : Datum) → f (d ∷ []) ≡ r) → f ds ≡ r

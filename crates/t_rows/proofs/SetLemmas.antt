@@ -1,5 +1,5 @@
 -- The rows of SET.
-use Rattle.std.proofs.Common.{◌≡◌, ◌==◌, ℕ, ◌+◌, Bool, true, false, not, List, [], ◌∷◌, ◌++◌, length, map, Option, Some, None, if◌then◌else◌, refl, ap, eq-eqb}
+use Rattle.std.proofs.Common.{◌≡◌, ◌==◌, ℕ, ◌+◌, true, false, List, [], ◌∷◌, ◌++◌, length, map, Some, None, refl, eq-eqb}
 use Rattle.std.proofs.lemmas.Bool.{ne_eqb}
 use Rattle.t_base.specs.declared.basics.Span.{Span}
 use Rattle.t_base.specs.declared.builtins.Builtin.{Builtin}
@@ -7,7 +7,7 @@ use Rattle.t_prim.specs.Table.{arity_of}
 use Rattle.t_forms.specs.Data.{Datum, atom, cons, span_of, items_of, listed, an_operation}
 use Rattle.t_forms.specs.Names.{Meaning, Scope}
 use Rattle.t_rows.specs.Lists.{is_pair}
-use Rattle.t_rows.specs.Rows.{Row, node, primitive, plain, stands_for, no_row, meant, not_settable, set_name, set_through, set_builtin, set_operation, set_items, set_place}
+use Rattle.t_rows.specs.Rows.{node, primitive, plain, stands_for, no_row, meant, not_settable, set_name, set_through, set_builtin, set_operation, set_items, set_place}
 
 pub set_exact : (s : Span) (a : Datum) (es : List Datum) (v : Datum) (q : Builtin) (n : ℕ) → n ≡ length es → (n + 1 == arity_of q) ≡ true
     → set_builtin s a es v (Some q) ≡ node (primitive q) [] (map plain (es ++ v ∷ []))

@@ -1,5 +1,5 @@
 -- The sort of a form.
-use Rattle.std.proofs.Common.{◌≡◌, ℕ, List, slice_get, Option, Some, None, is_none, if◌then◌else◌, refl, sym, ap, ◌∙◌}
+use Rattle.std.proofs.Common.{◌≡◌, ℕ, List, slice_get, Option, Some, None, refl, ◌∙◌}
 use Rattle.t_base.specs.declared.basics.Span.{Span}
 use Rattle.t_reader.specs.Grammar.{fix, char, nil, truth, string, symbol}
 use Rattle.t_objects.specs.declared.words.Word.{Word}

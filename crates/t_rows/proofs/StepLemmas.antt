@@ -1,5 +1,5 @@
 -- The bindings of DO.
-use Rattle.std.proofs.Common.{◌≡◌, ℕ, List, [], ◌∷◌, Option, Some, None, refl}
+use Rattle.std.proofs.Common.{◌≡◌, ℕ, List, [], ◌∷◌, Some, refl}
 use Rattle.std.specs.List.{AllZip}
 use Rattle.t_forms.specs.declared.arena.Cell.{Cell}
 use Rattle.t_forms.specs.Data.{Datum, items_of}

@@ -1,6 +1,5 @@
 -- Pieces of templates.
-use Rattle.std.proofs.Common.{◌≡◌, ℕ, ◌+◌, ◌<◌, add-one, drop-cons, List, [], ◌∷◌, ◌++◌, length, reverse, drop, get_or, slice_get, Option, Some, None, refl, sym, ap, ◌∙◌, subst}
-use Rattle.std.specs.List.{AllZip}
+use Rattle.std.proofs.Common.{◌≡◌, ℕ, ◌+◌, ◌<◌, add-one, drop-cons, List, [], ◌∷◌, ◌++◌, length, reverse, drop, get_or, slice_get, Option, Some, None, refl, sym, subst}
 use Rattle.std.proofs.lemmas.List.{reverse-append}
 use Rattle.t_base.specs.declared.basics.Span.{Span}
 use Rattle.t_objects.specs.declared.words.Word.{Word}

@@ -2,7 +2,6 @@
 use Rattle.std.proofs.Common.{◌≡◌, ◌≢◌, ℕ, Bool, true, false, ◌||◌, List, [], ◌∷◌, ◌++◌, AllPairs, if◌then◌else◌, refl, sym, ap, ◌∙◌, append_assoc}
 use Rattle.std.proofs.lemmas.List.{append-nil}
 use Rattle.std.specs.List.{AllZip, list_any}
-use Rattle.t_base.specs.declared.basics.Span.{Span}
 use Rattle.t_forms.specs.declared.scope.LocalName.{LocalName}
 use Rattle.t_forms.specs.Data.{Name, Binder, is_same_name}
 use Rattle.t_forms.specs.Held.{IsName}

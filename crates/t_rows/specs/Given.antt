@@ -3,10 +3,13 @@ use Rattle.std.specs.Prelude.{◌≡◌, ℕ, List, [], ◌∷◌, slice_get, So
 use Rattle.std.specs.Global.{Vec}
 use Rattle.t_base.specs.declared.basics.Var.{Var}
 use Rattle.t_forms.specs.declared.arena.Cell.{Cell}
+use Rattle.t_forms.specs.Data.{Name}
 use Rattle.t_forms.specs.Held.{Held, AreNames}
 use Rattle.t_rows.specs.declared.refusal.Refusal.{Refusal}
 use Rattle.t_rows.specs.declared.rows.Shape.{Shape as CodeShape}
 use Rattle.t_rows.specs.declared.rows.Shape.TheVariants as code
+use Rattle.t_rows.specs.declared.rows.Binds.{Binds}
+use Rattle.t_rows.specs.declared.rows.Binds.TheVariants as binds
 use Rattle.t_rows.specs.declared.rows.Part.{Part as CodePart}
 use Rattle.t_rows.specs.declared.rows.Row.{Row as CodeRow}
 use Rattle.t_rows.specs.declared.rows.Row.TheVariants as coded
@@ -31,16 +34,33 @@ IsShape names cells vars c call = c ≡ code.Call
 IsShape names cells vars c (primitive p) = c ≡ code.Primitive p
 IsShape names cells vars c nothing = c ≡ code.Nothing
 
-abbrev pub IsPart : List (List ℕ) → List Cell → CodePart → Part → Type 0
-IsPart names cells c p = AreNames names c.binds.items p.binds × Held names cells c.form p.form
+-- the names around a part are these, where those around the part before are the names before
+abbrev pub AreBinds : List (List ℕ) → List Name → Binds → List Name → Type 0
+AreBinds names before (binds.Names ks) ns = AreNames names ks.items ns
+AreBinds names before binds.AsBefore ns = ns ≡ before
 
-abbrev pub AreParts : List (List ℕ) → List Cell → List CodePart → List Part → Type 0
-AreParts names cells cs [] = cs ≡ []
-AreParts names cells cs (p ∷ ps) = (c : CodePart) × (others : List CodePart) × (cs ≡ c ∷ others) × IsPart names cells c p × AreParts names cells others ps
+-- the names around a part are these, and no others
+abbrev pub AreOwn : List (List ℕ) → Binds → List Name → Type 0
+AreOwn names (binds.Names ks) ns = AreNames names ks.items ns
+AreOwn names binds.AsBefore ns = ⊥
+
+-- a part with names of its own
+abbrev pub IsPart : List (List ℕ) → List Cell → CodePart → Part → Type 0
+IsPart names cells c p = AreOwn names c.binds p.binds × Held names cells c.form p.form
+
+-- a part behind one with the names before
+abbrev pub IsPartBehind : List (List ℕ) → List Cell → List Name → CodePart → Part → Type 0
+IsPartBehind names cells before c p = AreBinds names before c.binds p.binds × Held names cells c.form p.form
+
+-- parts behind one with the names before
+abbrev pub AreParts : List (List ℕ) → List Cell → List Name → List CodePart → List Part → Type 0
+AreParts names cells before cs [] = cs ≡ []
+AreParts names cells before cs (p ∷ ps) =
+    (c : CodePart) × (others : List CodePart) × (cs ≡ c ∷ others) × IsPartBehind names cells before c p × AreParts names cells p.binds others ps
 
 -- the code's row is the table's, over these cells and variables
 abbrev pub IsRow : List (List ℕ) → List Cell → List Var → CodeRow → Row → Type 0
 IsRow names cells vars c (stands_for d) = (k : ℕ) × (c ≡ coded.StandsFor k) × Held names cells k d
 IsRow names cells vars c (node shape refusals parts) =
     (s : CodeShape) × (rs : Vec Refusal) × (ps : Vec CodePart) × (c ≡ coded.Node s rs ps) × IsShape names cells vars s shape × (rs.items ≡ refusals)
-    × AreParts names cells ps.items parts
+    × AreParts names cells [] ps.items parts

@@ -5,6 +5,7 @@ pub mod Given
 pub mod Lists
 pub mod Meant
 pub mod Methods
+pub mod Numbers
 pub mod Procedures
 pub mod Rows
 pub mod Sorts

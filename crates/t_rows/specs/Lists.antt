@@ -6,7 +6,7 @@ use Rattle.t_reader.specs.Grammar.{symbol}
 use Rattle.t_forms.specs.declared.arena.Form.TheVariants as form
 use Rattle.t_forms.specs.declared.arena.Cell.{Cell}
 use Rattle.t_forms.specs.declared.scope.LocalName.{LocalName}
-use Rattle.t_forms.specs.Data.{given, variable, Datum, atom, cons, items_of, Name, name_of, Binder, binder_of, binder}
+use Rattle.t_forms.specs.Data.{given, variable, Datum, atom, cons, items_of, Name, name_of}
 use Rattle.t_forms.specs.Held.{cell, Held, IsName}
 use Rattle.t_rows.specs.declared.lists.Few.{Few}
 use Rattle.t_rows.specs.declared.lists.Few.TheVariants as few

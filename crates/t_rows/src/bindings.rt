@@ -15,7 +15,7 @@ use crate::lists::{items_of, split, with_body};
 use crate::making::{cons, items_of_keys, made};
 use crate::names::{Binder, Binding, binder_of, bindings_of, bound_in, names_of, twice};
 use crate::nodes::{no_row, rewritten};
-use crate::rows::{Part, Row, Shape};
+use crate::rows::{Binds, Part, Row, Shape};
 use crate::templates::Piece;
 use crate::words::{body, lambda_form};
 use std::alloc::Global;
@@ -68,7 +68,7 @@ fn value_parts(forms: &Forms, bindings: &[Binding]) -> Result<Vec<Part>, Memory>
     let mut parts = Vec::new(forms.alloc());
     'bindings: for binding in bindings {
         parts.push(Part {
-            binds: Vec::new(forms.alloc()),
+            binds: Binds::Names(Vec::new(forms.alloc())),
             form: binding.value,
         })?;
     }
@@ -91,7 +91,10 @@ fn let_node(
     let binds = names_of(forms.alloc(), names.as_slice())?;
     let form = body(forms, span, bs)?;
     let mut parts = value_parts(forms, bindings)?;
-    parts.push(Part { binds, form })?;
+    parts.push(Part {
+        binds: Binds::Names(binds),
+        form,
+    })?;
     Ok(Row::Node {
         shape: Shape::Let,
         refusals,
@@ -200,11 +203,11 @@ fn iterate_labels(forms: &Forms, name: LocalName, procedure: u32, call: u32) -> 
     starts.push(LocalName::Made(New::Start))?;
     let mut parts = Vec::new(forms.alloc());
     parts.push(Part {
-        binds,
+        binds: Binds::Names(binds),
         form: procedure,
     })?;
     parts.push(Part {
-        binds: starts,
+        binds: Binds::Names(starts),
         form: call,
     })?;
     Ok(Row::Node {

@@ -1,12 +1,12 @@
 //! LABELS.
-ghost use Rattle.std.specs.Prelude.{◌≡◌, ◌≢◌, ◌∷◌, List, ℕ, Option, map, AllPairs, IfOk, OnOk};
+ghost use Rattle.std.specs.Prelude.{◌≡◌, ◌≢◌, ◌∷◌, [], List, ℕ, Option, map, AllPairs, IfOk, OnOk};
 ghost use Rattle.std.specs.List.{AllZip};
 ghost use Rattle.t_base.specs.declared.basics.Var.{Var};
 ghost use Rattle.t_forms.specs.declared.arena.Cell.{Cell};
-ghost use Rattle.t_forms.specs.Data.{Datum, Binder as SpecBinder, all_of, names};
+ghost use Rattle.t_forms.specs.Data.{Datum, Name, Binder as SpecBinder, all_of, names};
 ghost use Rattle.t_forms.specs.Held.{Held};
 ghost use Rattle.t_rows.specs.Bindings.{IsBinder, IsAllOf};
-ghost use Rattle.t_rows.specs.Given.{IsPart, IsRow};
+ghost use Rattle.t_rows.specs.Given.{AreBinds, AreParts, IsRow};
 ghost use Rattle.t_rows.specs.Lists.{Grows, AreHeld, AreItems};
 ghost use Rattle.t_rows.specs.Procedures.{IsProcedure, IsProcedureIf, labels_item_of};
 ghost use Rattle.t_rows.specs.Rows.{Binding as SpecBinding, binders, inside, if_formed, is_lambda_word, lambda_item, procedure_item, labels_item, labels_node, labels_row};
@@ -16,7 +16,7 @@ use crate::lists::{
 };
 use crate::names::{Binder, binder_of, names_of, twice};
 use crate::nodes::no_row;
-use crate::rows::{Part, Row, Shape};
+use crate::rows::{Binds, Part, Row, Shape};
 use crate::words::{body, lambda_form};
 use std::alloc::Global;
 use t_base::{Memory, Names, Span};
@@ -144,15 +144,16 @@ fn bound_in(alloc: Global, procedures: &[Procedure]) -> Result<Vec<Binder>, Memo
     Ok(names)
 }
 
-/// A procedure inside all the names.
-fn procedure_part(alloc: Global, binders: &[Binder], procedure: Procedure) -> Result<Part, Memory>
-    ensures { (texts : List (List ℕ)) (cells : List Cell) (bs : List SpecBinder) (x : SpecBinding) → AllZip (IsBinder texts) binders.now bs → IsProcedure texts cells procedure x → IfOk result (λ part. IsPart texts cells part (inside (names bs) x.value)) }
+/// The names around a part with as many parts before it, where each part has these names.
+fn binds_behind(alloc: Global, binders: &[Binder], count: usize) -> Result<Binds, Memory>
+    ensures { (texts : List (List ℕ)) (bs : List SpecBinder) (before : List Name) → AllZip (IsBinder texts) binders.now bs → (count ≢ 0 → before ≡ names bs) → IfOk result (λ binds. AreBinds texts before binds (names bs)) }
 {
-    let binds = names_of(alloc, binders)?;
-    Ok(Part {
-        binds,
-        form: procedure.value,
-    })
+    if count == 0 {
+        let binds = names_of(alloc, binders)?;
+        Ok(Binds::Names(binds))
+    } else {
+        Ok(Binds::AsBefore)
+    }
 }
 
 /// Procedures, each inside all the names.
@@ -161,12 +162,15 @@ fn procedure_parts(
     binders: &[Binder],
     procedures: &[Procedure],
 ) -> Result<Vec<Part>, Memory>
-    ensures { (texts : List (List ℕ)) (cells : List Cell) (bs : List SpecBinder) (xs : List SpecBinding) → AllZip (IsBinder texts) binders.now bs → AllZip (IsProcedure texts cells) procedures.now xs → IfOk result (λ parts. AllZip (IsPart texts cells) parts.items (map (λ x. inside (names bs) x.value) xs)) }
+    ensures { (texts : List (List ℕ)) (cells : List Cell) (bs : List SpecBinder) (xs : List SpecBinding) → AllZip (IsBinder texts) binders.now bs → AllZip (IsProcedure texts cells) procedures.now xs → IfOk result (λ parts. AreParts texts cells [] parts.items (map (λ x. inside (names bs) x.value) xs)) }
 {
     let mut parts = Vec::new(alloc);
     'procedures: for procedure in procedures {
-        let part = procedure_part(alloc, binders, *procedure)?;
-        parts.push(part)?;
+        let binds = binds_behind(alloc, binders, parts.len())?;
+        parts.push(Part {
+            binds,
+            form: procedure.value,
+        })?;
     }
     Ok(parts)
 }
@@ -186,8 +190,10 @@ fn labels_node(
     let refusals = twice(forms.alloc(), names.as_slice())?;
     let form = body(forms, span, bs)?;
     let mut parts = procedure_parts(forms.alloc(), names.as_slice(), procedures)?;
-    let binds = names_of(forms.alloc(), names.as_slice())?;
-    parts.push(Part { binds, form })?;
+    parts.push(Part {
+        binds: Binds::AsBefore,
+        form,
+    })?;
     Ok(Row::Node {
         shape: Shape::Labels,
         refusals,

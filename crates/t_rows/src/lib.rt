@@ -26,5 +26,5 @@ pub use crate::definitions::{Definition, definition_of};
 pub use crate::lists::{items_of, split};
 pub use crate::names::{Binder, twice};
 pub use crate::refusal::{Refusal, SyntaxKind};
-pub use crate::rows::{Part, Row, Shape};
+pub use crate::rows::{Binds, Part, Row, Shape};
 pub use crate::table::row;

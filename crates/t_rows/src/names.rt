@@ -1,5 +1,6 @@
 //! Names that forms bind.
-ghost use Rattle.std.specs.Prelude.{◌≡◌, ◌≢◌, ◌∷◌, [], ◌++◌, if◌then◌else◌, List, ℕ, map, AllPairs, IfOk, OnOk};
+ghost use Rattle.std.specs.Prelude.{◌≡◌, ◌≢◌, ◌∷◌, [], ◌++◌, true, if◌then◌else◌, List, ℕ, nat_eq, map, AllPairs, IfOk, OnOk};
+ghost use Rattle.std.specs.HashSet.{contains};
 ghost use Rattle.std.specs.List.{AllZip, list_any};
 ghost use Rattle.t_forms.specs.declared.arena.Cell.{Cell};
 ghost use Rattle.t_forms.specs.Data.{Datum, all_of, Binder as SpecBinder, binders_of, names, is_same_new};
@@ -7,12 +8,14 @@ ghost use Rattle.t_forms.specs.Held.{Held, AreNames};
 ghost use Rattle.t_forms.specs.Lookup.{is_same_key};
 ghost use Rattle.t_rows.specs.declared.refusal.SyntaxKind.TheVariants.{ParamTwice};
 ghost use Rattle.t_rows.specs.Lists.{AreHeld};
+ghost use Rattle.t_rows.specs.Numbers.{number_of_new, number_of_name};
 ghost use Rattle.t_rows.specs.Bindings.{IsBinder, IsBinderOf, IsBinding, IsBindingOf, IsAllOf, params_of};
 ghost use Rattle.t_rows.specs.Rows.{Binding as SpecBinding, binding_of, bindings_of, binders, refusal, twice};
 
 use crate::lists::{Few, few_items, items_of, keys_of, name_of, span_of};
 use crate::refusal::{Refusal, SyntaxKind};
 use std::alloc::Global;
+use std::collections::HashSet;
 use t_base::{Memory, Span};
 use t_forms::{Forms, LocalName, New};
 
@@ -133,8 +136,8 @@ fn refuse_again(
     }
 }
 
-/// The second one of each name that stands twice.
-pub fn twice(alloc: Global, binders: &[Binder]) -> Result<Vec<Refusal>, Memory>
+/// The second one of each name that stands twice, of few names.
+fn twice_of_few(alloc: Global, binders: &[Binder]) -> Result<Vec<Refusal>, Memory>
     ensures { (texts : List (List ℕ)) (bs : List SpecBinder) → AllPairs (λ a b. a ≢ b) texts → AllZip (IsBinder texts) binders.now bs → IfOk result (λ rs. rs.items ≡ twice bs) }
 {
     let mut refusals = Vec::new(alloc);
@@ -142,6 +145,77 @@ pub fn twice(alloc: Global, binders: &[Binder]) -> Result<Vec<Refusal>, Memory>
         refuse_again(&mut refusals, &binders[..i], binders[i])?;
     }
     Ok(refusals)
+}
+
+/// A number for a new variable, other than that of each other one.
+fn number_of_new(new: New) -> u64
+    ensures { result ≡ number_of_new new }
+{
+    match new {
+        New::Answer => 1,
+        New::Chosen => 3,
+        New::Turn => 5,
+        New::Start => 7,
+        New::Own => 9,
+        New::Content => 11,
+        New::Part(place) => u64::from(place) * 2 + 13,
+    }
+}
+
+/// A number for a name, other than that of each other one.
+fn number_of_name(name: LocalName) -> u64
+    ensures { result ≡ number_of_name name }
+{
+    match name {
+        LocalName::Written(name) => u64::from(name.0) * 2,
+        LocalName::Made(new) => number_of_new(new),
+    }
+}
+
+/// Refuses a name whose number was seen, which it is from now on.
+fn refuse_seen(
+    refusals: &mut Vec<Refusal>,
+    seen: &mut HashSet<u64>,
+    binder: Binder,
+) -> Result<(), Memory>
+    ensures refusals { OnOk result (refusals.new.items ≡ refusals.old.items ++ (if contains nat_eq seen.old (number_of_name binder.name) then refusal ParamTwice binder.at ∷ [] else [])) }
+    ensures seen { OnOk result ((n : ℕ) → contains nat_eq seen.new n ≡ (if nat_eq (number_of_name binder.name) n then true else contains nat_eq seen.old n)) }
+{
+    if seen.insert(number_of_name(binder.name))? {
+        Ok(())
+    } else {
+        refusals.push(Refusal {
+            kind: SyntaxKind::ParamTwice,
+            span: binder.at,
+        })?;
+        Ok(())
+    }
+}
+
+/// The second one of each name that stands twice, of many names.
+fn twice_of_many(alloc: Global, binders: &[Binder]) -> Result<Vec<Refusal>, Memory>
+    ensures { (texts : List (List ℕ)) (bs : List SpecBinder) → AllPairs (λ a b. a ≢ b) texts → AllZip (IsBinder texts) binders.now bs → IfOk result (λ rs. rs.items ≡ twice bs) }
+{
+    let mut refusals = Vec::new(alloc);
+    let mut seen = HashSet::new(alloc);
+    'binders: for i in 0..binders.len() {
+        refuse_seen(&mut refusals, &mut seen, binders[i])?;
+    }
+    Ok(refusals)
+}
+
+/// As many names as are compared with each other; of more a set is made.
+const FEW: usize = 16;
+
+/// The second one of each name that stands twice. Its time is linear in the names.
+pub fn twice(alloc: Global, binders: &[Binder]) -> Result<Vec<Refusal>, Memory>
+    ensures { (texts : List (List ℕ)) (bs : List SpecBinder) → AllPairs (λ a b. a ≢ b) texts → AllZip (IsBinder texts) binders.now bs → IfOk result (λ rs. rs.items ≡ twice bs) }
+{
+    if binders.len() <= FEW {
+        twice_of_few(alloc, binders)
+    } else {
+        twice_of_many(alloc, binders)
+    }
 }
 
 /// The binding that a form `(x e)` is.

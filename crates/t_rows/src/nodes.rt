@@ -11,7 +11,7 @@ ghost use Rattle.t_rows.specs.Templates.{written_list};
 
 use crate::making::made;
 use crate::refusal::{Refusal, SyntaxKind};
-use crate::rows::{Part, Row, Shape};
+use crate::rows::{Binds, Part, Row, Shape};
 use crate::templates::{Piece, written};
 use t_base::{Memory, Span};
 use t_forms::{Form, Forms, LocalName};
@@ -55,12 +55,12 @@ pub fn no_row(forms: &mut Forms, span: Span) -> Result<Row, Memory>
 
 /// Parts inside no names of the node.
 pub fn plain_parts(forms: &Forms, keys: &[u32]) -> Result<Vec<Part>, Memory>
-    ensures { (names : List (List ℕ)) (ds : List Datum) → AreHeld names forms.now keys.now ds → IfOk result (λ parts. AreParts names forms.now parts.items (map plain ds)) }
+    ensures { (names : List (List ℕ)) (ds : List Datum) → AreHeld names forms.now keys.now ds → IfOk result (λ parts. AreParts names forms.now [] parts.items (map plain ds)) }
 {
     let mut parts = Vec::new(forms.alloc());
     'parts: for form in keys {
         parts.push(Part {
-            binds: Vec::new(forms.alloc()),
+            binds: Binds::Names(Vec::new(forms.alloc())),
             form: *form,
         })?;
     }
@@ -82,10 +82,13 @@ pub fn plain_node(forms: &mut Forms, shape: Shape, keys: &[u32]) -> Result<Row, 
 
 /// One part, inside names.
 pub fn one_part(forms: &Forms, binds: Vec<LocalName>, form: u32) -> Result<Vec<Part>, Memory>
-    ensures { (names : List (List ℕ)) (ns : List Name) (d : Datum) → AreNames names binds.items ns → Held names forms.now form d → IfOk result (λ parts. AreParts names forms.now parts.items (inside ns d ∷ [])) }
+    ensures { (names : List (List ℕ)) (ns : List Name) (d : Datum) → AreNames names binds.items ns → Held names forms.now form d → IfOk result (λ parts. AreParts names forms.now [] parts.items (inside ns d ∷ [])) }
 {
     let mut parts = Vec::new(forms.alloc());
-    parts.push(Part { binds, form })?;
+    parts.push(Part {
+        binds: Binds::Names(binds),
+        form,
+    })?;
     Ok(parts)
 }
 

@@ -20,7 +20,7 @@ use crate::lists::{items_of, keys_of, span_of, split, with_body};
 use crate::names::{Binder, names_of, twice};
 use crate::nodes::no_row;
 use crate::refusal::{Refusal, SyntaxKind};
-use crate::rows::{Part, Row, Shape};
+use crate::rows::{Binds, Part, Row, Shape};
 use crate::words::body;
 use std::alloc::Global;
 use t_base::{Keys, Memory, Names, Span};
@@ -175,7 +175,10 @@ fn add_body(alloc: Global, object: &mut Object, params: &[Binder], form: u32) ->
     let refusals = twice(alloc, params)?;
     let binds = names_of(alloc, params)?;
     object.refusals.extend_from_slice(refusals.as_slice())?;
-    object.parts.push(Part { binds, form })?;
+    object.parts.push(Part {
+        binds: Binds::Names(binds),
+        form,
+    })?;
     Ok(())
 }
 
@@ -201,7 +204,7 @@ fn no_methods(forms: &Forms, procedure: u32) -> Result<Object, Memory>
 {
     let mut parts = Vec::new(forms.alloc());
     parts.push(Part {
-        binds: Vec::new(forms.alloc()),
+        binds: Binds::Names(Vec::new(forms.alloc())),
         form: procedure,
     })?;
     Ok(Object {

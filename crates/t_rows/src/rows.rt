@@ -29,10 +29,17 @@ pub enum Shape {
     Nothing,
 }
 
+/// The names that a node binds around a part: these, or the names of the part before, of which the first part has none.
+#[derive(Drop)]
+pub enum Binds {
+    Names(Vec<LocalName>),
+    AsBefore,
+}
+
 /// A part of a node: a form by its place, and the names that the node binds around it.
 #[derive(Drop)]
 pub struct Part {
-    pub binds: Vec<LocalName>,
+    pub binds: Binds,
     pub form: u32,
 }
 

@@ -1,4 +1,4 @@
-use Rattle.std.proofs.Common.{[], ◌∷◌, map, sym}
+use Rattle.std.proofs.Common.{◌∷◌, map, sym}
 use Rattle.t_forms.specs.declared.arena.New.TheVariants as new
 use Rattle.t_forms.specs.Data.{listed, a_variable}
 use Rattle.t_rows.specs.Rows.{name_datum, lambda_form}

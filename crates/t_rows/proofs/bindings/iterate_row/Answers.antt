@@ -1,4 +1,4 @@
-use Rattle.std.proofs.Common.{◌≡◌, [], ◌∷◌, refl}
+use Rattle.std.proofs.Common.{◌∷◌, refl}
 use Rattle.t_rows.specs.Rows.{iterate_row, no_row}
 use Rattle.t_rows.proofs.RowLemmas.{short}
 use Rattle.t_rows.proofs.bindings.iterate_row.Goals as goal

@@ -1,8 +1,7 @@
-use Rattle.std.proofs.Common.{◌∷◌, [], map, refl}
+use Rattle.std.proofs.Common.{[], ◌∷◌, map, refl}
 use Rattle.t_forms.specs.Data.{names}
 use Rattle.t_rows.specs.Given.{IsPart}
 use Rattle.t_rows.specs.Rows.{plain, inside, binders, body}
-use Rattle.t_rows.proofs.Growth.{held_grows}
 use Rattle.t_rows.proofs.ZipLemmas.{zip_push}
 use Rattle.t_rows.proofs.PartLemmas.{zip_parts}
 use Rattle.t_rows.proofs.BindingLemmas.{bindings_grow}
@@ -22,5 +21,5 @@ returns-clause-row c vars x xs d ds apart z h =
       refl,
       refl,
       c.in_ok-refusals.ensures texts (binders (x ∷ xs)) apart (rw c.as_slice.ensures.value ns),
-      rw c.in_ok-push.ensures.items (zip_parts texts c.body.new.forms _ _ parts),
+      rw c.in_ok-push.ensures.items (zip_parts texts c.body.new.forms [] _ _ parts),
     )

@@ -1,5 +1,4 @@
-use Rattle.std.proofs.Common.{◌≡◌, ◌∙◌, sym, refl, length}
-use Rattle.t_prim.specs.Table.{arity_of}
+use Rattle.std.proofs.Common.{◌∙◌, sym, refl}
 use Rattle.t_rows.specs.Rows.{primitive}
 use Rattle.t_rows.proofs.CallLemmas.{builtin_exact, builtin_inexact}
 use Rattle.t_rows.proofs.calls.builtin_row.Goals as goal

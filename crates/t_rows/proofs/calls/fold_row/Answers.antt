@@ -1,4 +1,4 @@
-use Rattle.std.proofs.Common.{◌≡◌, [], ◌∷◌, refl, pos, ap}
+use Rattle.std.proofs.Common.{◌≡◌, [], ◌∷◌, refl, pos}
 use Rattle.t_reader.specs.Grammar.{fix}
 use Rattle.t_forms.specs.Data.{given, a_number}
 use Rattle.t_rows.specs.Rows.{primitive}

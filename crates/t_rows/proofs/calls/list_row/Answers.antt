@@ -1,4 +1,4 @@
-use Rattle.std.proofs.Common.{◌≡◌, [], ◌∷◌, refl}
+use Rattle.std.proofs.Common.{[], ◌∷◌, refl}
 use Rattle.t_base.specs.declared.builtins.Builtin.TheVariants as Builtins
 use Rattle.t_reader.specs.Grammar.{nil}
 use Rattle.t_forms.specs.Data.{given, listing, atom, listed}

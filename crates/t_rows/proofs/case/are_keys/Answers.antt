@@ -1,7 +1,6 @@
 use Rattle.std.proofs.Common.{◌≡◌, ◌<◌, true, false, length, get_or, take, add-one, sym, ◌∙◌}
 use Rattle.std.proofs.Math.Seq.{take-suc}
 use Rattle.std.proofs.lemmas.List.{take_all}
-use Rattle.t_forms.specs.Held.{Held}
 use Rattle.t_rows.proofs.CaseLemmas.{no_keys, one_key, no_key}
 use Rattle.t_rows.proofs.case.are_keys.Goals as goal
 

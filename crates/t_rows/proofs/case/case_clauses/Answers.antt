@@ -1,4 +1,4 @@
-use Rattle.std.proofs.Common.{◌≡◌, ◌+◌, ◌-◌, ◌<◌, ◌∷◌, arith, length, drop, refl, sym, ap, ◌∙◌, false}
+use Rattle.std.proofs.Common.{◌≡◌, ◌+◌, ◌-◌, ◌<◌, ◌∷◌, arith, length, drop, refl, sym, ap, ◌∙◌}
 use Rattle.t_reader.specs.Grammar.{nil}
 use Rattle.t_forms.specs.Data.{given, a_nil}
 use Rattle.t_forms.specs.Held.{Held}

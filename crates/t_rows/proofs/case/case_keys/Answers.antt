@@ -1,4 +1,4 @@
-use Rattle.std.proofs.Common.{Some, ◌∷◌, refl, sym, ◌∙◌}
+use Rattle.std.proofs.Common.{Some, ◌∷◌, refl}
 use Rattle.t_rows.proofs.CaseLemmas.{keys_short}
 use Rattle.t_rows.proofs.case.case_keys.Goals as goal
 

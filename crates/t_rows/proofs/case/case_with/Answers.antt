@@ -1,4 +1,4 @@
-use Rattle.t_rows.proofs.Growth.{extends_trans, held_grows}
+use Rattle.t_rows.proofs.Growth.{held_grows}
 use Rattle.t_rows.proofs.case.case_with.Goals as goal
 
 pub returns-clause-row : goal.returns-clause-row

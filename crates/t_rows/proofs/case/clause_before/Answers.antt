@@ -1,5 +1,5 @@
 use Rattle.std.proofs.Common.{refl, sym, ◌∙◌, subst}
-use Rattle.t_forms.specs.Data.{Datum, a_nil}
+use Rattle.t_forms.specs.Data.{Datum}
 use Rattle.t_forms.specs.Held.{Held}
 use Rattle.t_rows.proofs.CaseLemmas.{clause_last, clause_more, nil_left, no_items}
 use Rattle.t_rows.proofs.case.clause_before.Goals as goal

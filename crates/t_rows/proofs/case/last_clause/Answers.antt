@@ -1,4 +1,4 @@
-use Rattle.std.proofs.Common.{◌∷◌, refl, sym, ◌∙◌}
+use Rattle.std.proofs.Common.{refl, sym, ◌∙◌}
 use Rattle.t_forms.specs.Data.{a_nil}
 use Rattle.t_rows.proofs.CaseLemmas.{last_short}
 use Rattle.t_rows.proofs.case.last_clause.Goals as goal

@@ -1,6 +1,6 @@
 use Rattle.std.proofs.Common.{[], ◌∷◌}
 use Rattle.t_rows.specs.Rows.{received}
-use Rattle.t_rows.proofs.Growth.{extends_trans, held_grows, items_grow}
+use Rattle.t_rows.proofs.Growth.{held_grows, items_grow}
 use Rattle.t_rows.proofs.cond.clause_with_receiver.Goals as goal
 
 pub returns-clause-row : goal.returns-clause-row

@@ -1,4 +1,4 @@
-use Rattle.std.proofs.Common.{[], ◌∷◌}
+use Rattle.std.proofs.Common.{◌∷◌}
 use Rattle.t_rows.proofs.cond.cond_clause.Goals as goal
 
 pub returns-in-None-clause-row : goal.returns-in-None-clause-row

@@ -1,4 +1,4 @@
-use Rattle.std.proofs.Common.{[], ◌∷◌, sym, ◌∙◌, refl}
+use Rattle.std.proofs.Common.{[], ◌∷◌, sym, ◌∙◌}
 use Rattle.t_rows.proofs.cond.last_clause.Goals as goal
 
 pub returns-in-None-clause-row : goal.returns-in-None-clause-row

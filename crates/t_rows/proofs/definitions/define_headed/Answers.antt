@@ -1,4 +1,4 @@
-use Rattle.std.proofs.Common.{◌∷◌, refl}
+use Rattle.std.proofs.Common.{refl}
 use Rattle.t_rows.proofs.definitions.define_headed.Goals as goal
 
 pub returns-in-None-clause-definition : goal.returns-in-None-clause-definition

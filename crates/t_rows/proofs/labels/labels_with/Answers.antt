@@ -1,7 +1,7 @@
 use Rattle.std.proofs.Common.{◌∷◌, map}
 use Rattle.t_forms.specs.Data.{all_of}
 use Rattle.t_rows.specs.Procedures.{labels_item_of}
-use Rattle.t_rows.proofs.Growth.{extends_trans, items_grow}
+use Rattle.t_rows.proofs.Growth.{items_grow}
 use Rattle.t_rows.proofs.labels.labels_with.Goals as goal
 
 pub returns-clause-row : goal.returns-clause-row

@@ -1,7 +1,7 @@
 use Rattle.std.proofs.Common.{◌≡◌, ◌∷◌, sym, ◌∙◌, subst, List}
 use Rattle.t_forms.specs.Data.{Datum}
 use Rattle.t_forms.specs.Held.{Held}
-use Rattle.t_rows.specs.Lists.{AreItems, is_symbol}
+use Rattle.t_rows.specs.Lists.{AreItems}
 use Rattle.t_rows.proofs.LocativeLemmas.{call_symbol, call_form}
 use Rattle.t_rows.proofs.locative.locative_of_list.Goals as goal
 

@@ -1,4 +1,3 @@
-use Rattle.std.proofs.Common.{◌∷◌}
 use Rattle.t_rows.proofs.locative.locative_of_pair.Goals as goal
 
 pub returns-in-None-clause-row : goal.returns-in-None-clause-row

@@ -1,4 +1,4 @@
-use Rattle.std.proofs.Common.{[], ◌∷◌, sym, ◌∙◌}
+use Rattle.std.proofs.Common.{sym, ◌∙◌}
 use Rattle.t_rows.proofs.LocativeLemmas.{of_pair, of_name}
 use Rattle.t_rows.proofs.locative.locative_row.Goals as goal
 

@@ -2,7 +2,7 @@ use Rattle.std.proofs.Common.{◌<◌, [], ◌∷◌, length, get_or, take, add-
 use Rattle.std.proofs.Math.Seq.{take-suc}
 use Rattle.std.proofs.lemmas.List.{take_all}
 use Rattle.t_forms.specs.declared.arena.New.TheVariants as new
-use Rattle.t_forms.specs.Data.{variable, a_variable, listed}
+use Rattle.t_forms.specs.Data.{a_variable, listed}
 use Rattle.t_rows.specs.Rows.{part_bindings}
 use Rattle.t_rows.proofs.Growth.{extends_same, extends_trans, held_grows}
 use Rattle.t_rows.proofs.LocativeLemmas.{no_parts, one_part, bindings_last}

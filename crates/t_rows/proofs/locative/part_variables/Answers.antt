@@ -1,10 +1,10 @@
-use Rattle.std.proofs.Common.{◌<◌, [], ◌∷◌, length, get_or, take, add-one, refl}
+use Rattle.std.proofs.Common.{◌<◌, length, get_or, take, add-one, refl}
 use Rattle.std.proofs.Math.Seq.{take-suc}
 use Rattle.std.proofs.lemmas.List.{take_all}
 use Rattle.t_forms.specs.declared.arena.New.TheVariants as new
-use Rattle.t_forms.specs.Data.{variable, a_variable, listed}
+use Rattle.t_forms.specs.Data.{variable, a_variable}
 use Rattle.t_rows.specs.Rows.{part_variables}
-use Rattle.t_rows.proofs.Growth.{extends_same, extends_trans, held_grows}
+use Rattle.t_rows.proofs.Growth.{extends_same, extends_trans}
 use Rattle.t_rows.proofs.LocativeLemmas.{no_parts, one_part, variables_last}
 use Rattle.t_rows.proofs.locative.part_variables.Goals as goal
 

@@ -1,4 +1,4 @@
-use Rattle.std.proofs.Common.{◌≡◌, ◌+◌, ◌-◌, ◌<◌, arith, length, drop, refl}
+use Rattle.std.proofs.Common.{◌≡◌, ◌+◌, ◌-◌, ◌<◌, arith, length, drop}
 use Rattle.t_forms.specs.Held.{Held}
 use Rattle.t_rows.proofs.ZipLemmas.{zip_drop, zip_end}
 use Rattle.t_rows.proofs.Growth.{extends_trans, held_grows}

@@ -1,4 +1,4 @@
-use Rattle.std.proofs.Common.{◌<◌, length, get_or, take, add-one, refl}
+use Rattle.std.proofs.Common.{[], ◌<◌, length, get_or, take, add-one}
 use Rattle.std.proofs.Math.Seq.{take-suc}
 use Rattle.std.proofs.lemmas.List.{take_all}
 use Rattle.t_forms.specs.Held.{Held}
@@ -21,4 +21,4 @@ parts-preserved c names ds h =
 
 pub returns : goal.returns
 returns c names ds h =
-    zip_parts names c.args.forms.now c.parts.parts.items _ (c.parts.invariant names ds (rw (take_all c.parts.form-index c.args.keys.now c.parts-test.false) h))
+    zip_parts names c.args.forms.now [] c.parts.parts.items _ (c.parts.invariant names ds (rw (take_all c.parts.form-index c.args.keys.now c.parts-test.false) h))

@@ -1,4 +1,3 @@
-use Rattle.std.proofs.Common.{refl}
 use Rattle.t_rows.proofs.object.no_methods.Goals as goal
 
 pub returns : goal.returns

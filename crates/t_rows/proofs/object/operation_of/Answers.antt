@@ -1,4 +1,3 @@
-use Rattle.std.proofs.Common.{sym}
 use Rattle.t_forms.specs.Held.{vars_of}
 use Rattle.t_rows.specs.Rows.{meant}
 use Rattle.t_rows.proofs.MethodLemmas.{fixed_is, meant_is}

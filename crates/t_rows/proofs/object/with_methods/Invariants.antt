@@ -1,4 +1,4 @@
-use Rattle.std.proofs.Common.{◌≢◌, ℕ, List, AllPairs, take}
+use Rattle.std.proofs.Common.{◌≢◌, List, AllPairs, take}
 use Rattle.std.specs.List.{AllZip}
 use Rattle.t_forms.specs.Data.{Datum}
 use Rattle.t_forms.specs.Held.{Held, IsScope}

@@ -1,5 +1,4 @@
-use Rattle.std.proofs.Common.{◌≡◌, ◌==◌, ◌+◌, true, [], ◌∷◌, ◌++◌, length, sym, ◌∙◌, ap, refl}
-use Rattle.t_prim.specs.Table.{arity_of}
+use Rattle.std.proofs.Common.{[], ◌∷◌, ◌++◌, sym, ◌∙◌, refl}
 use Rattle.t_rows.specs.Rows.{primitive}
 use Rattle.t_rows.proofs.SetLemmas.{set_exact, set_inexact}
 use Rattle.t_rows.proofs.set.set_builtin.Goals as goal

@@ -1,4 +1,4 @@
-use Rattle.std.proofs.Common.{[], ◌∷◌, ◌∙◌, ap, true, false, refl}
+use Rattle.std.proofs.Common.{[], ◌∷◌, ◌∙◌, ap, refl}
 use Rattle.t_forms.specs.Names.{a_global}
 use Rattle.t_rows.specs.Rows.{set_local, set_global}
 use Rattle.t_rows.proofs.set.set_name.Goals as goal

@@ -1,4 +1,4 @@
-use Rattle.std.proofs.Common.{[], ◌∷◌, ◌++◌, sym, ◌∙◌, refl}
+use Rattle.std.proofs.Common.{[], ◌∷◌, ◌++◌, sym, ◌∙◌}
 use Rattle.t_rows.proofs.SetLemmas.{contents_once, contents_other, no_contents}
 use Rattle.t_rows.proofs.set.set_operation.Goals as goal
 

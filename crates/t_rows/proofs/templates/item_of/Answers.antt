@@ -1,7 +1,7 @@
 use Rattle.std.proofs.Common.{refl}
 use Rattle.t_reader.specs.Grammar.{nil}
 use Rattle.t_forms.specs.Data.{given}
-use Rattle.t_rows.specs.Templates.{item_of, or_nil, atom_of}
+use Rattle.t_rows.specs.Templates.{atom_of}
 use Rattle.t_rows.proofs.TemplateLemmas.{given_held, given_none, item_atom}
 use Rattle.t_rows.proofs.templates.item_of.Goals as goal
 

@@ -1,4 +1,3 @@
-use Rattle.std.proofs.Common.{ap}
 use Rattle.t_forms.specs.Data.{listed}
 use Rattle.t_rows.proofs.Growth.{extends_trans, items_grow}
 use Rattle.t_rows.proofs.TemplateLemmas.{opened_list}

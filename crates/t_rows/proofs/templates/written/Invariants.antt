@@ -1,4 +1,4 @@
-use Rattle.std.proofs.Common.{◌≡◌, ℕ, ◌≤◌, List, length, drop}
+use Rattle.std.proofs.Common.{ℕ, ◌≤◌, List, length, drop}
 use Rattle.t_forms.specs.Data.{Datum}
 use Rattle.t_rows.specs.Lists.{Grows, AreHeld, AreLists, AreOpen}
 use Rattle.t_rows.specs.Templates.{lists_from}

@@ -1,5 +1,4 @@
-use Rattle.std.proofs.Common.{◌≡◌, List, [], ◌∷◌, ◌∙◌, ap, refl}
-use Rattle.t_forms.specs.Data.{Datum}
+use Rattle.std.proofs.Common.{◌≡◌, ◌∷◌, refl}
 use Rattle.t_rows.specs.Rows.{block}
 use Rattle.t_rows.proofs.words.block_row.Goals as goal
 

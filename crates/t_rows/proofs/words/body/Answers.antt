@@ -1,4 +1,4 @@
-use Rattle.std.proofs.Common.{◌≡◌, List, [], ◌∷◌, ◌∙◌, ap, subst}
+use Rattle.std.proofs.Common.{◌≡◌, [], ◌∷◌, subst}
 use Rattle.t_forms.specs.Data.{Datum}
 use Rattle.t_forms.specs.Held.{Held}
 use Rattle.t_rows.proofs.words.body.Goals as goal

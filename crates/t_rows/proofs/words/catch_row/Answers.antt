@@ -1,4 +1,4 @@
-use Rattle.std.proofs.Common.{◌≡◌, List, [], ◌∷◌, ◌∙◌, ap, refl}
+use Rattle.std.proofs.Common.{[], ◌∷◌, refl}
 use Rattle.t_rows.specs.Rows.{body, catch_row, no_row}
 use Rattle.t_rows.proofs.RowLemmas.{short}
 use Rattle.t_rows.proofs.words.catch_row.Goals as goal

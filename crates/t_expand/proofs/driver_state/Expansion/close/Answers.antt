@@ -7,9 +7,8 @@ use Rattle.t_expand.specs.Building.{part_of}
 use Rattle.t_expand.specs.Meaning.{Fits}
 use Rattle.t_expand.proofs.QuotedLemmas.{AddsConstants_refl}
 use Rattle.t_forms.proofs.Keeping.{extends_same}
-use Rattle.t_expand.proofs.GrowthLemmas.{Grows_refl}
 use Rattle.t_expand.proofs.NodeLemmas.{fits_shape, fits_constant}
-use Rattle.t_expand.proofs.StepLemmas.{closes, placed}
+use Rattle.t_expand.proofs.StepLemmas.{SameBut-Grows, closes, placed, same_around}
 use Rattle.t_expand.proofs.driver_state.Expansion.close.Goals as goal
 
 pub returns-then-is_some-clause-back : goal.returns-then-is_some-clause-back
@@ -17,7 +16,8 @@ returns-then-is_some-clause-back c root waiting u =
     let a = c.args.frame.parts.ok.0 in
     let b = c.args.frame.done.ok.0 in
     let le : length c.args.frame.parts.items ≤ length c.args.frame.done.items = omega arith in
-    closes root c.args.self.now c.args.self.now waiting c.args.frame 0 u le (Grows_refl c.args.self.now) refl refl
+    closes root c.args.self.now _ waiting c.args.frame 0 u le
+    (SameBut-Grows c.args.self.now _ (record { forms = refl; shared = refl; nodes = refl; first = refl })) (same_around c.unbind_all.new.scope _ c.unbind_all.ensures.locals c.unbind_all.ensures.table) refl
     (λ e. let h : false ≡ true = ap is_some (sym e) ∙ sym c.is_some.ensures ∙ c.if-is_some.true in absurd (cc))
 
 pub returns-in_ok-place-in-Constant-clause-back : goal.returns-in_ok-place-in-Constant-clause-back
@@ -35,7 +35,7 @@ returns-in_ok-place-in-Constant-clause-back c root waiting u =
       nodes = record { more = c.in_ok-core-in-Constant.core ∷ []; is = more.nodes };
       spans = record { more = c.args.frame.span ∷ []; is = more.spans };
       first = λ e. e;
-    }) refl refl
+    }) (same_around c.unbind_all.new.scope _ c.unbind_all.ensures.locals c.unbind_all.ensures.table) refl
     (λ e. (
       c.in_ok-core-in-Constant.core,
       placed c.args.self.now.nodes.nodes _ _ _ more.place more.nodes,
@@ -69,7 +69,7 @@ returns-in_ok-place-in_default-clause-back c root waiting u =
       nodes = record { more = c.in_ok-core-in_default.core ∷ []; is = more.nodes };
       spans = record { more = c.args.frame.span ∷ []; is = more.spans };
       first = λ e. e;
-    }) refl refl
+    }) (same_around c.unbind_all.new.scope _ c.unbind_all.ensures.locals c.unbind_all.ensures.table) refl
     (λ e. (
       c.in_ok-core-in_default.core,
       placed c.args.self.now.nodes.nodes _ _ _ more.place more.nodes,

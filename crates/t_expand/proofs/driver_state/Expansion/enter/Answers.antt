@@ -1,6 +1,6 @@
 use Rattle.std.proofs.Common.{◌≡◌, ◌≢◌, ◌∙◌, ◌<◌, AllPairs, Some, length, slice_get, refl, sym, ap, subst, arith}
 use Rattle.std.proofs.lemmas.Option.{slice_get_read}
-use Rattle.t_expand.proofs.StepLemmas.{enters, bound}
+use Rattle.t_expand.proofs.StepLemmas.{enters}
 use Rattle.t_expand.proofs.driver_state.Expansion.enter.Goals as goal
 
 pub returns-clause-under : goal.returns-clause-under
@@ -12,10 +12,9 @@ returns-clause-under c root distinct u =
     let lt : c.len-index.result < length c.args.frame.parts.items = omega arith in
     let found = subst (λ n. slice_get c.args.frame.parts.items n ≡ Some part) (index_is ∙ done_len)
     (slice_get_read c.args.frame.parts.items (length c.args.frame.parts.items) c.len-index.result part refl lt c.index-part.ensures) in
-    let b = bound c.args.self.now c.variables_for.new.self c.bind_all.new.scope part.binds.items c.as_slice.result.now c.in_ok-vars.vars.first c.in_ok-vars.ensures.rest c.as_slice.ensures.value
-    c.in_ok-bind_all.ensures.names c.in_ok-bind_all.ensures.vars c.in_ok-bind_all.ensures.outer c.in_ok-bind_all.ensures.table in
-    let count = c.in_ok-vars.ensures.count ∙ (c.in-Ok.ensures).1 ∙ c.len.ensures ∙ part.binds.ok.0 in
-    let names_are = ap (λ e. e.shared.names) c.in_ok-vars.ensures.rest in
-    enters root c.args.self.now _ c.opened.new.self c.args.waiting.now.items c.push.new.self.items c.args.frame c.in_ok-inner.inner _ part u found b count refl c.in_ok-push.ensures.items
-    c.in_ok-inner.ensures.grows c.in_ok-inner.ensures.scope c.in_ok-inner.ensures.tail
+    let rest = c.in_ok-vars.ensures.rest in
+    let names_are = ap (λ e. e.shared.names) rest in
+    enters root c.args.self.now c.bind_part.new.self c.opened.new.self c.args.waiting.now.items c.push.new.self.items c.args.frame c.in_ok-inner.inner _ part u found
+    (record { forms = ap (λ e. e.forms) rest; shared = ap (λ e. e.shared) rest; nodes = ap (λ e. e.nodes) rest; first = ap (λ e. e.first) rest })
+    c.in_ok-vars.ensures.inside refl c.in_ok-push.ensures.items c.in_ok-inner.ensures.grows c.in_ok-inner.ensures.scope c.in_ok-inner.ensures.tail
     (λ d around held scope. c.in_ok-inner.ensures.opens d around (subst (λ n. AllPairs (λ a b. a ≢ b) n) (sym names_are) distinct) held scope)

@@ -1,6 +1,6 @@
 use Rattle.std.proofs.Common.{refl}
 use Rattle.t_expand.proofs.QuotedLemmas.{none_left}
-use Rattle.t_expand.proofs.StepLemmas.{ends, leaves, same_around}
+use Rattle.t_expand.proofs.StepLemmas.{ends, leaves}
 use Rattle.t_expand.proofs.driver_state.Expansion.leave.Goals as goal
 
 pub returns-in-None-clause-next : goal.returns-in-None-clause-next
@@ -10,5 +10,5 @@ returns-in-None-clause-next c root b =
 pub returns-in_ok-push-in-Some-clause-next : goal.returns-in_ok-push-in-Some-clause-next
 returns-in_ok-push-in-Some-clause-next c root b =
     leaves root c.args.self.now _ c.args.waiting.now.items c.pop.new.self.items c.in-Some.field-0 _ c.args.key (record { at = c.args.key; vars = c.in-Some.field-0.vars; tail = c.in-Some.field-0.tail })
-    c.in-Some.ensures.items (record { forms = refl; shared = refl; nodes = refl; first = refl }) (same_around c.unbind_all.new.scope _ c.unbind_all.ensures.locals c.unbind_all.ensures.table)
-    (record { shape = refl; span = refl; tail = refl; parts = refl; done = c.in_ok-push-in-Some.ensures.items }) refl b
+    c.in-Some.ensures.items (record { forms = refl; shared = refl; nodes = refl; first = refl }) refl
+    (record { shape = refl; span = refl; tail = refl; parts = refl; done = c.in_ok-push-in-Some.ensures.items; bound = refl }) refl b

@@ -17,6 +17,6 @@ returns c = record {
   scope = refl;
   tail = refl;
   opens = λ d around distinct held scope.
-      frame_opens c.args.self.now _ around d c.in-Some.cell.now _ c.in_ok-found.found (c.in_ok-found.ensures.finds d around distinct held scope) scope (sym c.in-Some.ensures) refl refl refl c.new.ensures.items
+      frame_opens c.args.self.now _ around d c.in-Some.cell.now _ c.in_ok-found.found (c.in_ok-found.ensures.finds d around distinct held scope) scope (sym c.in-Some.ensures) refl refl refl c.new.ensures.items refl
       (subst (λ l. IsFirst c.args.self.now.first l c.noted-self.result) c.as_slice.ensures.value c.noted-self.ensures);
 }

@@ -1,10 +1,10 @@
-use Rattle.std.proofs.Common.{◌<◌, length, get_or, take, add-one, arith}
+use Rattle.std.proofs.Common.{◌<◌, length, get_or, take, add-one}
 use Rattle.std.proofs.Math.Seq.{take-suc}
 use Rattle.std.proofs.lemmas.List.{take_all}
 use Rattle.t_forms.specs.declared.scope.LocalName.TheVariants as key
 use Rattle.t_rows.specs.declared.names.Binder.{Binder as CodeBinder}
 use Rattle.t_rows.proofs.TwiceLemmas.{twice_none, twice_step}
-use Rattle.t_rows.proofs.names.twice.Goals as goal
+use Rattle.t_rows.proofs.names.twice_of_few.Goals as goal
 
 no_binder : CodeBinder
 no_binder = record { at = record { start = 0; end = 0 }; name = key.Written (record { 0 = 0 }) }

@@ -1,0 +1,17 @@
+use Rattle.std.proofs.Common.{◌∙◌, sym, ap, subst}
+use Rattle.t_expand.specs.Driving.{Inside}
+use Rattle.t_expand.proofs.StepLemmas.{inside_bound}
+use Rattle.t_expand.proofs.driver_state.Expansion.bind_part.Goals as goal
+
+pub returns-in-AsBefore-clause-inside : goal.returns-in-AsBefore-clause-inside
+returns-in-AsBefore-clause-inside c at around last bound s i b =
+    subst (λ l. Inside c.args.self.now.shared.names c.args.self.now.scope at around l c.args.frame.now.bound) (sym (rw c.in-AsBefore.is at b)) i
+
+pub returns-in_ok-bind_all-in-Names-clause-inside : goal.returns-in_ok-bind_all-in-Names-clause-inside
+returns-in_ok-bind_all-in-Names-clause-inside c at around last bound s i b =
+    let names = c.in-Names.names in
+    let rest = c.in_ok-vars-in-Names.ensures.rest in
+    let all = c.in_ok-bind_all-in-Names.ensures in
+    inside_bound c.args.self.now.shared.names c.args.self.now.scope c.variables_for.new.self.scope c.bind_all.new.scope at around last bound c.args.frame.now.bound c.in_ok-vars-in-Names.vars
+    names.items c.as_slice.result.now s i (ap (λ e. e.scope.locals) rest ∙ c.unbind_all.ensures.locals) (ap (λ e. e.scope.table) rest ∙ c.unbind_all.ensures.table)
+    (rw c.in-Names.is at b) c.as_slice.ensures.value all.names all.vars all.outer all.table (c.in_ok-vars-in-Names.ensures.count ∙ c.in-Ok.ensures.1 ∙ c.len.ensures ∙ names.ok.0)
