@@ -21,8 +21,8 @@ use Rattle.t_forms.specs.Data.{Name, written, made, is_same_name}
 use Rattle.t_forms.specs.Names.{Meaning, Bound, bound, a_global, an_op, defined_as}
 use Rattle.t_forms.specs.Held.{IsName, IsTable, IsDefined}
 use Rattle.t_forms.proofs.Bindings.{same_place, nothing_defined}
-use Rattle.t_rows.specs.declared.definitions.Definition.{Definition as CodeDefinition}
-use Rattle.t_rows.specs.Definitions.{IsDefinition}
+use Rattle.form_rows.specs.declared.definitions.Definition.{Definition as CodeDefinition}
+use Rattle.form_rows.specs.Definitions.{IsDefinition}
 use Rattle.t_rows.specs.Rows.{Definition, define, lset, operation_form}
 use Rattle.t_expand.specs.Entries.{AreEntries, IsGlobalAdded, IsOpAdded, IsPut, is_variable}
 use Rattle.t_expand.specs.Units.{Entry, entry, defined_name, is_global, is_assigned, has_entry, with_definition, meanings_from, text_of, texts}

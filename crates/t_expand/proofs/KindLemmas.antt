@@ -14,10 +14,10 @@ use Rattle.t_forms.specs.Builtins.{builtin_named}
 use Rattle.t_forms.specs.Data.{Name, written, made, Datum, Binder}
 use Rattle.t_forms.specs.Names.{Meaning, a_local, a_global, an_op, the_builtin, the_operation, the_truth, the_listing, none, Bound, or_else, operation_names, beyond, defined_as, meaning}
 use Rattle.t_forms.specs.Held.{IsMeaning}
-use Rattle.t_rows.specs.declared.definitions.Definition.{Definition as CodeDefinition}
-use Rattle.t_rows.specs.declared.definitions.Definition.TheVariants as code
+use Rattle.form_rows.specs.declared.definitions.Definition.{Definition as CodeDefinition}
+use Rattle.form_rows.specs.declared.definitions.Definition.TheVariants as code
 use Rattle.t_rows.specs.declared.names.Binder.{Binder as CodeBinder}
-use Rattle.t_rows.specs.Definitions.{IsDefinition}
+use Rattle.form_rows.specs.Definitions.{IsDefinition}
 use Rattle.t_rows.specs.Rows.{Definition, define, lset, operation_form}
 use Rattle.t_expand.specs.Meaning.{IsKind, top_scope}
 use Rattle.t_expand.specs.Rooted.{kind_of}

@@ -6,8 +6,8 @@ use Rattle.t_base.specs.declared.shared_parts.GlobalKind.{GlobalKind}
 use Rattle.t_base.specs.declared.shared_parts.GlobalKind.TheVariants as kind
 use Rattle.t_forms.specs.declared.scope.Defined.TheVariants as kept
 use Rattle.t_forms.specs.Held.{IsTable}
-use Rattle.t_rows.specs.declared.definitions.Definition.{Definition as CodeDefinition}
-use Rattle.t_rows.specs.declared.definitions.Definition.TheVariants as code
+use Rattle.form_rows.specs.declared.definitions.Definition.{Definition as CodeDefinition}
+use Rattle.form_rows.specs.declared.definitions.Definition.TheVariants as code
 use Rattle.t_expand.specs.declared.entries.Entries.{Entries}
 use Rattle.t_expand.specs.Units.{Entry, is_global, meanings_from, texts}
 

@@ -4,8 +4,8 @@ use Rattle.t_core.specs.declared.forms.FormKind.{FormKind}
 use Rattle.t_core.specs.declared.forms.FormKind.TheVariants as kind
 use Rattle.t_forms.specs.declared.scope.Meant.{Meant}
 use Rattle.t_forms.specs.declared.scope.Meant.TheVariants as meant
-use Rattle.t_rows.specs.declared.definitions.Definition.{Definition}
-use Rattle.t_rows.specs.declared.definitions.Definition.TheVariants as code
+use Rattle.form_rows.specs.declared.definitions.Definition.{Definition}
+use Rattle.form_rows.specs.declared.definitions.Definition.TheVariants as code
 use Rattle.t_expand.specs.declared.unit_top.Rooted.{Rooted}
 use Rattle.t_expand.specs.Meaning.{Nodes}
 

@@ -5,7 +5,7 @@ use Rattle.t_reader.specs.Grammar.{symbol}
 use Rattle.t_forms.specs.declared.arena.Cell.{Cell}
 use Rattle.t_forms.specs.Data.{Datum, atom, given}
 use Rattle.t_forms.specs.Held.{Held}
-use Rattle.t_rows.specs.Definitions.{IsDefinition}
+use Rattle.form_rows.specs.Definitions.{IsDefinition}
 use Rattle.t_expand.specs.declared.tops.Top.{Top as CodeTop}
 use Rattle.t_expand.specs.declared.tops.Top.TheVariants as code
 use Rattle.t_expand.specs.Units.{Top, defining, broken, expression}

@@ -13,10 +13,11 @@ use crate::build::{Done, Fresh, NO_VARS, leaf, node};
 use crate::driver_first::noted;
 use crate::driver_state::Expansion;
 use crate::quoted::constant_of;
+use form_rows::row;
 use t_base::{Memory, Names, Span, Var};
 use t_core::Core;
 use t_forms::{Forms, LocalName, Scope};
-use t_rows::{Binds, Part, Refusal, Row, Shape, row};
+use t_rows::{Binds, Part, Refusal, Row, Shape};
 
 /// A node under way: its parts, the places of the nodes that the first of them stand for, and the variables of the last of these, which
 /// are still bound.

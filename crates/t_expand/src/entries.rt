@@ -4,17 +4,18 @@ ghost use Rattle.t_reader.specs.Unit.{fixed_names};
 ghost use Rattle.t_objects.specs.Operations.{builtin_entries};
 ghost use Rattle.t_forms.specs.declared.arena.Cell.{Cell};
 ghost use Rattle.t_rows.specs.Rows.{Definition as SpecDefinition};
-ghost use Rattle.t_rows.specs.Definitions.{IsDefinition};
+ghost use Rattle.form_rows.specs.Definitions.{IsDefinition};
 ghost use Rattle.t_rows.specs.Bindings.{IsBinder};
 ghost use Rattle.t_expand.specs.Units.{Top as SpecTop, Entry, defined_name, with_top, with_definition, entries_of};
 ghost use Rattle.t_expand.specs.Tops.{IsTop, AreTops};
 ghost use Rattle.t_expand.specs.Entries.{AreEntries, IsGlobalAdded, IsOpAdded, IsPut};
 
 use crate::tops::Top;
+use form_rows::Definition;
 use std::alloc::Global;
 use t_base::{Global1, GlobalKind, Memory, Name, Names, OpInfo};
 use t_forms::{Defined, LocalName};
-use t_rows::{Binder, Definition};
+use t_rows::names::Binder;
 
 /// What a unit defines: by the places of names what each is, and the globals and operations. A global that a DEFINE defines is a value
 /// until its form is expanded.

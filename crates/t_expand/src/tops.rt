@@ -4,13 +4,14 @@ ghost use Rattle.t_forms.specs.Data.{Datum, span_of, items_of};
 ghost use Rattle.t_forms.specs.Held.{Held, AllHeld, Extends};
 ghost use Rattle.t_expand.specs.Units.{definition_of_items, definition_in, is_defining, defines, is_herald_items, without_herald, top_of, tops_of};
 ghost use Rattle.t_rows.specs.Lists.{Grows, AreItems};
-ghost use Rattle.t_rows.specs.Definitions.{IsDefinitionIf};
+ghost use Rattle.form_rows.specs.Definitions.{IsDefinitionIf};
 ghost use Rattle.t_expand.specs.Tops.{IsOperator, IsTop, AreTops, is_herald_head};
 
+use form_rows::{Definition, definition_of};
 use t_base::{Memory, Names, Span};
 use t_forms::{Form, Forms};
 use t_objects::Word;
-use t_rows::{Definition, definition_of, items_of, split};
+use t_rows::lists::{items_of, split};
 
 /// A form at top level: what it defines, the span of a defining form that is no row, or the place of an expression.
 #[derive(Drop)]

@@ -7,7 +7,7 @@ ghost use Rattle.t_forms.specs.Data.{Binder as SpecBinder};
 ghost use Rattle.t_forms.specs.Names.{Bound};
 ghost use Rattle.t_forms.specs.Held.{Held};
 ghost use Rattle.t_rows.specs.Rows.{Definition as SpecDefinition, refusal, twice};
-ghost use Rattle.t_rows.specs.Definitions.{IsDefinition};
+ghost use Rattle.form_rows.specs.Definitions.{IsDefinition};
 ghost use Rattle.t_rows.specs.Bindings.{IsBinder};
 ghost use Rattle.std.specs.List.{AllZip};
 ghost use Rattle.t_expand.specs.Growth.{IsGrown, Keeps, IsReady};
@@ -24,11 +24,13 @@ use crate::entries::defined_name;
 use crate::spans::Spans;
 use crate::tops::Top;
 use crate::unit_marks::NameMarks;
+use form_rows::Definition;
 use std::mem;
 use t_base::{Global1, GlobalKind, Memory, Span};
 use t_core::{Core, Form, FormKind};
 use t_forms::Meant;
-use t_rows::{Binder, Definition, Refusal, SyntaxKind, twice};
+use t_rows::names::{Binder, twice};
+use t_rows::{Refusal, SyntaxKind};
 
 /// The nodes of a form with their spans, and the place of the root.
 #[derive(Drop)]

@@ -1,13 +1,6 @@
 pub mod Bindings
-pub mod Cases
-pub mod Definitions
 pub mod Given
 pub mod Lists
-pub mod Meant
-pub mod Methods
 pub mod Numbers
-pub mod Procedures
 pub mod Rows
-pub mod Sorts
-pub mod Steps
 pub mod Templates

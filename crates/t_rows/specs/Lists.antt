@@ -94,3 +94,8 @@ abbrev pub is_symbol : Datum → Bool
 is_symbol (atom s (given (symbol text))) = true
 is_symbol (atom s (variable n)) = true
 is_symbol _ = false
+
+-- the form at the place is the datum, where there is one
+abbrev pub IsHeldIf : List (List ℕ) → List Cell → Option ℕ → Option Datum → Type 0
+IsHeldIf names cells k None = k ≡ None
+IsHeldIf names cells k (Some d) = (i : ℕ) × (k ≡ Some i) × Held names cells i d

@@ -1,30 +1,15 @@
-//! The table of forms: what each form of a text stands for (`specs/Rows.antt`, a row for each), and the call that gives the row of a
-//! form (`specs/Given.antt`).
+//! The table of forms (`specs/Rows.antt`, a row for each form), and what its rows are made of: names and lists as cells, forms that rows
+//! make, and the rows of the reserved words whose nodes are the core's own. What the code's row is to the table's is `specs/Given.antt`.
 #![tactic(auto)]
 
-mod bindings;
-mod calls;
-mod case;
-mod cond;
-mod definitions;
-mod labels;
-mod lists;
-mod locative;
-mod loops;
-mod making;
-mod names;
-mod nodes;
-mod object;
+pub mod lists;
+pub mod making;
+pub mod names;
+pub mod nodes;
 mod refusal;
 mod rows;
-mod set;
-mod table;
-mod templates;
-mod words;
+pub mod templates;
+pub mod words;
 
-pub use crate::definitions::{Definition, definition_of};
-pub use crate::lists::{items_of, split};
-pub use crate::names::{Binder, twice};
 pub use crate::refusal::{Refusal, SyntaxKind};
 pub use crate::rows::{Binds, Part, Row, Shape};
-pub use crate::table::row;

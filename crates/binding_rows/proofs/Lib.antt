@@ -1,0 +1,3 @@
+pub mod LocativeLemmas
+pub mod ProcedureLemmas
+pub mod StepLemmas

@@ -1,0 +1,31 @@
+use Rattle.std.proofs.Common.{◌<◌, length, get_or, take, add-one, refl}
+use Rattle.std.proofs.Math.Seq.{take-suc}
+use Rattle.std.proofs.lemmas.List.{take_all}
+use Rattle.t_forms.specs.declared.arena.New.TheVariants as new
+use Rattle.t_forms.specs.Data.{variable, a_variable}
+use Rattle.t_rows.specs.Rows.{part_variables}
+use Rattle.t_rows.proofs.Growth.{extends_same, extends_trans}
+use Rattle.binding_rows.proofs.LocativeLemmas.{no_parts, one_part, variables_last}
+use Rattle.binding_rows.proofs.locative.part_variables.Goals as goal
+
+pub keys-init : goal.keys-init
+keys-init c = record {
+  grown = extends_same;
+  made = λ names. rw c.new-variables.ensures.items (no_parts names c.args.forms.now (part_variables c.args.span) c.args.from refl);
+}
+
+pub keys-preserved : goal.keys-preserved
+keys-preserved c =
+    let below : c.keys.index < length c.args.keys.now = c.keys-test.true in
+    record {
+      grown = extends_trans c.keys.invariant.grown c.in_ok-variable.ensures.grown;
+      made = λ names.
+          rw (add-one c.keys.index, take-suc c.args.keys.now c.keys.index 0 below, c.in_ok-push.ensures.items)
+          (one_part names c.args.forms.now c.keys.forms c.made.new.forms (part_variables c.args.span) (λ n d. a_variable c.args.span (new.Part n)) c.args.from c.keys.number
+          (take c.keys.index c.args.keys.now) c.keys.variables.items (get_or c.args.keys.now c.keys.index 0) c.in_ok-variable.variable (variables_last c.args.span c.args.from)
+          c.in_ok-variable.ensures.grown (c.keys.invariant.made names) (λ d h. c.in_ok-variable.ensures.made names (variable (new.Part c.keys.number)) refl));
+    }
+
+pub returns-clause-made : goal.returns-clause-made
+returns-clause-made c names ds h =
+    (rw (take_all c.keys.index c.args.keys.now c.keys-test.false) at (c.keys.invariant.made names)).are ds h

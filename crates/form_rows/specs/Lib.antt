@@ -1,0 +1,4 @@
+pub mod Definitions
+pub mod Meant
+pub mod Methods
+pub mod Sorts
