@@ -3,7 +3,6 @@ use Rattle.std.specs.Prelude.{◌≡◌, ℕ, List, Option, Some, None}
 use Rattle.std.specs.Global.{Vec}
 use Rattle.std.specs.List.{AllZip}
 use Rattle.t_forms.specs.declared.arena.Cell.{Cell}
-use Rattle.t_forms.specs.Data.{Datum}
 use Rattle.t_forms.specs.Held.{Held}
 use Rattle.t_rows.specs.declared.names.Binder.{Binder}
 use Rattle.form_rows.specs.declared.definitions.Definition.{Definition as CodeDefinition}

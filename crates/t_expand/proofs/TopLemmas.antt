@@ -11,7 +11,8 @@ use Rattle.t_forms.specs.Names.{Bound}
 use Rattle.t_forms.specs.Held.{Held, AllHeld, Extends}
 use Rattle.t_forms.proofs.Keeping.{held_grows}
 use Rattle.form_rows.specs.declared.definitions.Definition.{Definition as CodeDefinition}
-use Rattle.form_rows.specs.Definitions.{IsDefinition, IsHeldIf}
+use Rattle.form_rows.specs.Definitions.{IsDefinition}
+use Rattle.t_rows.specs.Lists.{IsHeldIf}
 use Rattle.t_rows.specs.Rows.{Definition, define, lset, operation_form}
 use Rattle.t_expand.specs.Growth.{Keeps}
 use Rattle.t_expand.specs.Meaning.{TopMeans, FormMeans}

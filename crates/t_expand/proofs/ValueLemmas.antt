@@ -10,7 +10,8 @@ use Rattle.t_rows.specs.declared.refusal.Refusal.{Refusal}
 use Rattle.form_rows.specs.declared.definitions.Definition.{Definition as CodeDefinition}
 use Rattle.form_rows.specs.declared.definitions.Definition.TheVariants as code
 use Rattle.t_rows.specs.declared.names.Binder.{Binder as CodeBinder}
-use Rattle.form_rows.specs.Definitions.{IsDefinition, IsHeldIf}
+use Rattle.form_rows.specs.Definitions.{IsDefinition}
+use Rattle.t_rows.specs.Lists.{IsHeldIf}
 use Rattle.t_rows.specs.Bindings.{IsBinder}
 use Rattle.std.specs.List.{AllZip}
 use Rattle.t_rows.specs.Rows.{Definition, define, lset, operation_form, twice}
