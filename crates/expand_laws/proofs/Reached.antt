@@ -1,5 +1,5 @@
 -- What is known of the forms that the table reaches from a form of a text.
-use Rattle.std.specs.Prelude.{◌≡◌, ◌⊎◌, ℕ, ◌<◌, ℤ, pos, List, [], ◌∷◌, ◌++◌, map, length, Contains, Option, Some, None}
+use Rattle.std.specs.Prelude.{◌≡◌, ◌⊎◌, ℕ, ◌<◌, Bool, true, pos, List, [], ◌∷◌, ◌++◌, map, length, Contains, Option, Some, None}
 use Rattle.std.specs.List.{AllByRecursion}
 use Rattle.t_prim.specs.Table.{arity_of}
 use Rattle.t_reader.specs.Grammar.{Value, fix, char, nil, truth, string, symbol}
