@@ -1,5 +1,6 @@
 pub mod Joining
 pub mod Made
+pub mod Numbering
 pub mod Once
 pub mod OneTop
 pub mod Premises
