@@ -6,4 +6,5 @@ pub mod OneTop
 pub mod Premises
 pub mod Reached
 pub mod Shortness
+pub mod Tables
 pub mod TopsMade
