@@ -1,3 +1,5 @@
+pub mod DefinedOnce
+pub mod Defining
 pub mod Joining
 pub mod Made
 pub mod Numbering
