@@ -2,6 +2,7 @@ pub mod DefinedOnce
 pub mod Defining
 pub mod Joining
 pub mod Made
+pub mod Named
 pub mod Numbering
 pub mod Once
 pub mod OneTop
