@@ -1,5 +1,6 @@
 pub mod DefinedOnce
 pub mod Defining
+pub mod Fineness
 pub mod Joining
 pub mod Made
 pub mod Named
