@@ -10,5 +10,7 @@ pub mod OneTop
 pub mod Premises
 pub mod Reached
 pub mod Shortness
+pub mod Sizes
 pub mod Tables
 pub mod TopsMade
+pub mod Weights
