@@ -1,3 +1,4 @@
+pub mod AllTops
 pub mod DefinedOnce
 pub mod Defining
 pub mod Fineness
@@ -12,5 +13,6 @@ pub mod Reached
 pub mod Shortness
 pub mod Sizes
 pub mod Tables
+pub mod TopsFine
 pub mod TopsMade
 pub mod Weights
