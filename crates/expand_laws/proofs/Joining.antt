@@ -110,7 +110,7 @@ more_made names defined t ts before mid after alloc one short k rest = record {
       (λ j. named_more pair_in pair_of j one.nodes (form_of alloc one short) rest.forms one.new_pairs rest.new_pairs refl);
   ascii = All-append (λ bytes. All (λ b. b < 128) bytes) one.new_strings rest.new_strings one.ascii rest.ascii;
   pairs_right = λ shared h.
-  All-append (λ (p : Const × Const). IsConst shared p.0 × IsConst shared p.1) one.new_pairs rest.new_pairs (one.pairs_right shared (first shared h)) (rest.pairs_right shared h);
+      All-append (λ (p : Const × Const). IsConst shared p.0 × IsConst shared p.1) one.new_pairs rest.new_pairs (one.pairs_right shared (first shared h)) (rest.pairs_right shared h);
   lower = λ l. rest.lower (one.lower l);
   few_forms = ap suc rest.few_forms;
   few_strings =

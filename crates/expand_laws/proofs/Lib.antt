@@ -10,9 +10,11 @@ pub mod Once
 pub mod OneTop
 pub mod Premises
 pub mod Reached
+pub mod Ready
 pub mod Shortness
 pub mod Sizes
 pub mod Tables
 pub mod TopsFine
 pub mod TopsMade
+pub mod UnitMade
 pub mod Weights

@@ -213,10 +213,10 @@ numbered_behind defined pre es g o (defining d ∷ ts) un are e =
     let whole : defined ≡ pre ++ bound (defined_name d).name (own g o d) ∷ meanings_from (next_global g d) (next_op o d) (map entry (definitions ts)) =
     e ∙ ap (λ l. pre ++ l) (meanings_more g o d (map entry (definitions ts))) in (
       ap (λ l. defined_as l (defined_name d).name) whole
-      ∙ first_bound pre (meanings_from (next_global g d) (next_op o d) (map entry (definitions ts))) (bound (defined_name d).name (own g o d)) (defined_name d).name (un (defined_name d).name are.0)
-      (same_name_self (defined_name d).name),
+          ∙ first_bound pre (meanings_from (next_global g d) (next_op o d) (map entry (definitions ts))) (bound (defined_name d).name (own g o d)) (defined_name d).name (un (defined_name d).name are.0)
+          (same_name_self (defined_name d).name),
       numbered_behind defined (pre ++ bound (defined_name d).name (own g o d) ∷ []) (es ++ entry d ∷ []) (next_global g d) (next_op o d) ts (more_unbound es pre d (own g o d) un) are.1
-      (whole ∙ sym (append_assoc pre (bound (defined_name d).name (own g o d) ∷ []) (meanings_from (next_global g d) (next_op o d) (map entry (definitions ts))))),
+          (whole ∙ sym (append_assoc pre (bound (defined_name d).name (own g o d) ∷ []) (meanings_from (next_global g d) (next_op o d) (map entry (definitions ts))))),
     )
 numbered_behind defined pre es g o (broken s ∷ ts) un are e = numbered_behind defined pre es g o ts un are e
 numbered_behind defined pre es g o (expression d ∷ ts) un are e = numbered_behind defined pre es g o ts un are e

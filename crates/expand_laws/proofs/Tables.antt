@@ -108,7 +108,6 @@ tabled names defined g o (expression d ∷ ts) (f ∷ fs) fine filled are =
 
 -- ---- their names
 
-
 pub globals_named : (names : List (List ℕ)) (g o : ℕ) (ts : List Top) (fs : List Form) (gs : List Global1) (os : List OpInfo) → Tabled names g o ts fs gs os
     → map (λ text. Some text) (texts (filter (λ e. is_global e.by) (map entry (definitions ts)))) ≡ map (λ x. slice_get names x.name.0) gs
 globals_named names g o ts fs gs os (no_more _ _) = refl
