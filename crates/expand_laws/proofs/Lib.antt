@@ -1,7 +1,9 @@
 pub mod Always
 pub mod Atoms
+pub mod Blocks
 pub mod Calls
 pub mod Fine
+pub mod Lets
 pub mod Made
 pub mod Reached
 pub mod Sizes
