@@ -1,8 +1,10 @@
 pub mod Always
 pub mod Atoms
+pub mod Below
 pub mod Blocks
 pub mod Calls
 pub mod Fine
+pub mod LetRows
 pub mod Lets
 pub mod Made
 pub mod Reached
