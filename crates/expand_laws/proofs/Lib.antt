@@ -3,6 +3,8 @@ pub mod Atoms
 pub mod Below
 pub mod Blocks
 pub mod Calls
+pub mod CondRows
+pub mod DoRows
 pub mod Fine
 pub mod LetRows
 pub mod Lets
