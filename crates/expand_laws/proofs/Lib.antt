@@ -3,11 +3,15 @@ pub mod Atoms
 pub mod Below
 pub mod Blocks
 pub mod Calls
+pub mod CaseRows
 pub mod CondRows
 pub mod DoRows
 pub mod Fine
 pub mod LetRows
 pub mod Lets
+pub mod LocativeRows
 pub mod Made
 pub mod Reached
+pub mod SetRows
 pub mod Sizes
+pub mod TableEnds
