@@ -1,18 +1,18 @@
 -- Forms on which the table ends in every scope.
-use Rattle.std.proofs.Common.{◌≡◌, ℕ, ◌+◌, ◌<◌, Bool, true, false, if◌then◌else◌, List, [], ◌∷◌, ◌++◌, map, Option, Some, None, refl, sym, ap, subst, ◌∙◌}
+use Rattle.std.proofs.Common.{◌≡◌, ℕ, Bool, true, false, if◌then◌else◌, List, [], ◌∷◌, ◌++◌, map, Option, Some, None, refl, sym, ap, subst}
 use Rattle.std.specs.List.{AllByRecursion}
 use Rattle.std.specs.Option.{option_map, option_and_then}
 use Rattle.t_base.specs.declared.basics.Span.{Span}
-use Rattle.t_reader.specs.Grammar.{Value, symbol}
+use Rattle.t_reader.specs.Grammar.{Value}
 use Rattle.t_objects.specs.declared.words.Word.{Word}
 use Rattle.t_objects.specs.Words.{word_named}
-use Rattle.t_forms.specs.Data.{given, Datum, atom, cons, items_of, listed, word_of, all_of}
+use Rattle.t_forms.specs.Data.{Datum, listed, word_of, all_of}
 use Rattle.t_forms.specs.Names.{Scope, within}
-use Rattle.t_rows.specs.declared.refusal.Refusal.{Refusal}
-use Rattle.t_rows.specs.Rows.{Row, stands_for, node, Shape, Part, plain, inside, if_formed, no_row, word_, word_row, operator_row, items_row, call_row, row}
-use Rattle.expand_laws.proofs.Reached.{IsPure, HasBuiltinOps, IsRightShape, Comes, to_form, to_node, AllCome, no_parts, one_part}
+use Rattle.t_rows.specs.Rows.{Row, stands_for, node, Part, plain, if_formed, word_, word_row, operator_row, items_row, call_row, row}
+use Rattle.expand_laws.proofs.Reached.{HasBuiltinOps, IsRightShape, Comes, to_form, to_node, AllCome, no_parts, one_part}
 use Rattle.expand_laws.proofs.Sizes.{items_listed}
 
+-- Whatever the names around it mean, the table ends on the form, and the operations in it are the builtin ones.
 pub record Always (right : Value → Type 0) (d : Datum) : Type 0 where
   pub ops : HasBuiltinOps d
   pub comes : (scope : Scope) → Comes right scope d
@@ -75,9 +75,6 @@ other_form right s f ds e ops h = operator_form right s f ds ops by
     by scope = row_same right (operator_row scope s f ds (word_of f)) (call_row scope s f ds) (ap (λ o. operator_row scope s f ds o) e) (h scope)
 
 -- ---- rows
-
-pub no_row_ends : (right : Value → Type 0) (s : Span) → RowEnds right (no_row s)
-no_row_ends right s = (tt, tt)
 
 pub formed : {A : Type 0} (right : Value → Type 0) (s : Span) (f : A → Row) (o : Option A) → ((x : A) → o ≡ Some x → RowEnds right (f x)) → RowEnds right (if_formed s f o)
 formed right s f None h = (tt, tt)

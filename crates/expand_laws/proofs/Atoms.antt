@@ -1,10 +1,10 @@
 -- Atoms end the table.
-use Rattle.std.proofs.Common.{◌≡◌, ℕ, ◌<◌, Some, None}
+use Rattle.std.proofs.Common.{ℕ, ◌<◌}
 use Rattle.t_base.specs.declared.basics.Span.{Span}
 use Rattle.t_base.specs.declared.builtins.Builtin.{Builtin}
 use Rattle.t_reader.specs.Grammar.{Value, fix, char, nil, truth, string, symbol}
 use Rattle.t_forms.specs.declared.arena.New.{New}
-use Rattle.t_forms.specs.Data.{Atom, given, variable, builtin, operation, listing, Datum, atom, cons, a_nil, a_true, a_variable, a_builtin, an_operation, made, name_of}
+use Rattle.t_forms.specs.Data.{Atom, given, variable, builtin, operation, listing, atom, a_nil, a_true, a_variable, a_builtin, an_operation, made, name_of}
 use Rattle.t_forms.specs.Names.{Meaning, a_local, a_global, an_op, the_builtin, the_operation, the_truth, the_listing, none, Scope, meaning}
 use Rattle.t_rows.specs.Rows.{name_row, atom_row}
 use Rattle.expand_laws.proofs.Reached.{HasMadeValues}

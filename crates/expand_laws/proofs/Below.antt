@@ -1,14 +1,15 @@
 -- What holds of the parts of a form, where the table ends on the fine data below a size.
-use Rattle.std.proofs.Common.{◌≡◌, ℕ, ◌+◌, ◌<◌, ◌≤◌, List, [], ◌∷◌, Option, Some, None, refl, subst, arith}
+use Rattle.std.proofs.Common.{◌≡◌, ℕ, ◌<◌, ◌≤◌, List, [], ◌∷◌, Some, subst, arith}
 use Rattle.std.specs.List.{AllByRecursion}
 use Rattle.t_reader.specs.Grammar.{Value}
-use Rattle.t_forms.specs.Data.{Datum, atom, cons, items_of, Binder, binder_of}
-use Rattle.t_rows.specs.Rows.{Binding, binding_of_items, binding_of}
-use Rattle.expand_laws.proofs.Sizes.{size, total, items_size}
+use Rattle.t_forms.specs.Data.{Datum, items_of, Binder, binder_of}
+use Rattle.t_rows.specs.Rows.{Binding, binding_of_items}
+use Rattle.expand_laws.proofs.Sizes.{size, total}
 use Rattle.expand_laws.proofs.Fine.{IsItem, IsFine, pure_fine, item_fine, IsSmall, item_small, small_items}
 use Rattle.expand_laws.proofs.Always.{Always, AllAlways, all_each, through, mapped}
 use Rattle.expand_laws.proofs.Lets.{BindingAlways, BindingsAlways, bindings_by}
 
+-- the hypothesis of the induction on the size of a form
 abbrev pub Below : (Value → Type 0) → ℕ → Type 0
 Below right n = (e : Datum) → size e < n → IsFine right e → Always right e
 
@@ -27,7 +28,7 @@ smalls_always right n ds below h = all_each (IsSmall right n) (Always right) (λ
 pub items_always : (right : Value → Type 0) (n : ℕ) (ds : List Datum) → Below right n → AllItems right ds → total ds ≤ n → AllAlways right ds
 items_always right n [] below h l = tt
 items_always right n (d ∷ ds) below h l =
-    (below d (omega (arith, l)) (item_fine right d h.0), items_always right n ds below h.1 (let k : total ds ≤ n = omega (arith, l) in k))
+    (below d (omega (arith, l)) (item_fine right d h.0), items_always right n ds below h.1 (omega (arith, l)))
 
 pair_small : (right : Value → Type 0) (n : ℕ) (ds : List Datum) (x : Binding) → Below right n → AllSmall right n ds → binding_of_items ds ≡ Some x → Always right x.value
 pair_small right n [] x below h f = cc

@@ -1,12 +1,12 @@
 -- The table ends on IF, BLOCK, AND, LAMBDA and CATCH, where it ends on their parts.
-use Rattle.std.proofs.Common.{◌≡◌, ℕ, List, [], ◌∷◌, map, Option, Some, None, refl}
+use Rattle.std.proofs.Common.{List, [], ◌∷◌, refl}
 use Rattle.std.specs.Prelude.{codes}
 use Rattle.std.specs.Option.{option_and_then}
 use Rattle.t_base.specs.declared.basics.Span.{Span}
 use Rattle.t_objects.specs.declared.words.Word.TheVariants as word
-use Rattle.t_reader.specs.Grammar.{Value, symbol}
-use Rattle.t_forms.specs.Data.{given, Datum, atom, cons, items_of, listed, a_nil, name_of, binders_of, names}
-use Rattle.t_rows.specs.Rows.{node, lambda, catch_, plain, inside, body, word_, twice, lambda_form, lambda_row, if_row, block_row, catch_row, and_row}
+use Rattle.t_reader.specs.Grammar.{Value}
+use Rattle.t_forms.specs.Data.{Datum, items_of, listed, a_nil, name_of, binders_of, names}
+use Rattle.t_rows.specs.Rows.{node, lambda, catch_, inside, body, word_, twice, lambda_form, lambda_row, if_row, block_row, catch_row, and_row}
 use Rattle.expand_laws.proofs.Reached.{HasBuiltinOps, HasMadeValues}
 use Rattle.expand_laws.proofs.Always.{Always, AllAlways, RowEnds, all_ops, word_form, formed, plain_parts}
 use Rattle.expand_laws.proofs.Atoms.{nil_always, truth_always}

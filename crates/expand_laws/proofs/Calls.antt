@@ -4,10 +4,9 @@ use Rattle.t_base.specs.declared.basics.Span.{Span}
 use Rattle.t_base.specs.declared.builtins.Builtin.{Builtin}
 use Rattle.t_base.specs.declared.builtins.Builtin.TheVariants as Builtins
 use Rattle.t_prim.specs.Table.{arity_of}
-use Rattle.t_reader.specs.Grammar.{Value, fix, symbol}
-use Rattle.std.specs.Prelude.{pos}
-use Rattle.t_forms.specs.Data.{given, variable, builtin, operation, listing, Datum, atom, cons, listed, a_number, a_builtin, word_of}
-use Rattle.t_forms.specs.Names.{Meaning, a_local, a_global, an_op, the_builtin, the_operation, the_truth, the_listing, none, Scope}
+use Rattle.t_reader.specs.Grammar.{Value}
+use Rattle.t_forms.specs.Data.{builtin, listing, Datum, atom, listed, a_number, a_builtin, word_of}
+use Rattle.t_forms.specs.Names.{Meaning, the_builtin, the_listing, Scope}
 use Rattle.t_rows.specs.Rows.{node, primitive, plain, call_node, fold_row, builtin_row, minus_row, builtin_call, list_row, call_meant, meant, call_row}
 use Rattle.expand_laws.proofs.Reached.{HasBuiltinOps, HasMadeValues}
 use Rattle.expand_laws.proofs.Always.{Always, AllAlways, RowEnds, always, row_same, all_ops, other_form, either_row, plain_parts}

@@ -1,13 +1,13 @@
 -- The table ends on QUOTE and CASE.
-use Rattle.std.proofs.Common.{◌≡◌, ℕ, ◌+◌, ◌<◌, ◌≤◌, Bool, true, false, if◌then◌else◌, List, [], ◌∷◌, Option, Some, None, refl, subst, arith}
+use Rattle.std.proofs.Common.{◌≡◌, ℕ, ◌≤◌, Bool, true, false, if◌then◌else◌, List, [], ◌∷◌, Option, Some, None, refl, subst, arith}
 use Rattle.std.specs.Prelude.{codes}
 use Rattle.std.specs.List.{AllByRecursion, list_all}
-use Rattle.std.specs.Option.{option_map, option_and_then}
+use Rattle.std.specs.Option.{option_map}
 use Rattle.std.proofs.lemmas.Option.{same_Some}
 use Rattle.t_base.specs.declared.basics.Span.{Span}
 use Rattle.t_base.specs.declared.builtins.Builtin.TheVariants as Builtins
 use Rattle.t_objects.specs.declared.words.Word.TheVariants as word
-use Rattle.t_reader.specs.Grammar.{Value, symbol}
+use Rattle.t_reader.specs.Grammar.{Value}
 use Rattle.t_forms.specs.declared.arena.New.TheVariants as new
 use Rattle.t_forms.specs.Data.{given, variable, builtin, operation, listing, Datum, atom, cons, items_of, listed, a_nil, a_true, a_variable, a_builtin, word_of}
 use Rattle.t_rows.specs.Rows.{stands_for, word_, body, quote_row, is_else, is_key, key_test, case_chosen, case_keys, case_last, case_clauses, case_row}

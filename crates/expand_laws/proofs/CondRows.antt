@@ -1,25 +1,19 @@
 -- The table ends on COND and CASE.
-use Rattle.std.proofs.Common.{◌≡◌, ℕ, ◌+◌, ◌<◌, ◌≤◌, Bool, true, false, ◌||◌, if◌then◌else◌, List, [], ◌∷◌, ◌++◌, map, Option, Some, None, refl, subst, arith}
+use Rattle.std.proofs.Common.{◌≡◌, ℕ, ◌+◌, ◌<◌, ◌≤◌, Bool, true, false, ◌||◌, if◌then◌else◌, List, [], ◌∷◌, Some, arith}
 use Rattle.std.specs.Prelude.{codes}
-use Rattle.std.specs.List.{AllByRecursion, list_all}
-use Rattle.std.specs.Option.{option_map, option_and_then}
-use Rattle.std.proofs.lemmas.Option.{same_Some}
 use Rattle.t_base.specs.declared.basics.Span.{Span}
-use Rattle.t_base.specs.declared.builtins.Builtin.TheVariants as Builtins
-use Rattle.t_objects.specs.declared.words.Word.TheVariants as word
-use Rattle.t_reader.specs.Grammar.{Value, symbol}
+use Rattle.t_reader.specs.Grammar.{Value}
 use Rattle.t_forms.specs.declared.arena.New.TheVariants as new
-use Rattle.t_forms.specs.Data.{given, variable, builtin, operation, listing, Datum, atom, cons, items_of, listed, a_nil, a_true, a_variable, a_builtin, word_of}
-use Rattle.t_rows.specs.Rows.{stands_for, word_, body, quote_row, is_else, is_arrow, test_answer, received, cond_plain, cond_clause, cond_row, is_key, key_test, case_chosen, case_keys, case_last, case_clauses, case_row}
-use Rattle.expand_laws.proofs.Reached.{IsPure, HasMadeValues}
+use Rattle.t_forms.specs.Data.{Datum, items_of, listed, a_variable, word_of}
+use Rattle.t_rows.specs.Rows.{stands_for, word_, body, is_else, is_arrow, test_answer, received, cond_plain, cond_clause, cond_row}
+use Rattle.expand_laws.proofs.Reached.{HasMadeValues}
 use Rattle.expand_laws.proofs.Sizes.{size, total, size_some, size_listed, items_size}
-use Rattle.expand_laws.proofs.Fine.{pure_head, pure_ops, listed_tail, IsSmall, item_small, small_items}
-use Rattle.expand_laws.proofs.Always.{Always, AllAlways, RowEnds, word_form, formed, either_row, all_each, through, mapped}
-use Rattle.expand_laws.proofs.Atoms.{nil_always, truth_always, variable_always, builtin_always}
-use Rattle.expand_laws.proofs.Calls.{call_form}
+use Rattle.expand_laws.proofs.Fine.{pure_head, listed_tail, IsSmall, item_small}
+use Rattle.expand_laws.proofs.Always.{Always, RowEnds, formed, either_row}
+use Rattle.expand_laws.proofs.Atoms.{nil_always}
 use Rattle.expand_laws.proofs.Blocks.{if_form, block_form, body_always}
-use Rattle.expand_laws.proofs.Lets.{BindingAlways, pair_binding, bindings_listed, let_form, test_always, or_form}
-use Rattle.expand_laws.proofs.Below.{Below, AllItems, AllSmall, small_always, smalls_always, items_always}
+use Rattle.expand_laws.proofs.Lets.{test_always, or_form}
+use Rattle.expand_laws.proofs.Below.{Below, AllItems, AllSmall, small_always, smalls_always}
 
 either_always : (right : Value → Type 0) (b : Bool) (x y : Datum) → Always right x → Always right y → Always right (if b then x else y)
 either_always right true x y h k = h

@@ -1,17 +1,17 @@
 -- The table ends on DO.
-use Rattle.std.proofs.Common.{◌≡◌, ℕ, ◌+◌, ◌<◌, ◌≤◌, List, [], ◌∷◌, ◌++◌, map, Option, Some, None, refl, subst, arith}
+use Rattle.std.proofs.Common.{◌≡◌, ℕ, ◌≤◌, List, [], ◌∷◌, ◌++◌, map, Some, refl, subst, arith}
 use Rattle.std.specs.Prelude.{codes}
 use Rattle.std.specs.List.{AllByRecursion}
 use Rattle.std.specs.Option.{option_and_then}
 use Rattle.std.proofs.lemmas.Option.{same_Some}
 use Rattle.t_base.specs.declared.basics.Span.{Span}
 use Rattle.t_objects.specs.declared.words.Word.TheVariants as word
-use Rattle.t_reader.specs.Grammar.{Value, symbol}
+use Rattle.t_reader.specs.Grammar.{Value}
 use Rattle.t_forms.specs.declared.arena.New.TheVariants as new
-use Rattle.t_forms.specs.Data.{given, variable, Datum, atom, cons, items_of, listed, a_variable, all_of}
+use Rattle.t_forms.specs.Data.{Datum, items_of, listed, a_variable, all_of}
 use Rattle.t_rows.specs.Rows.{word_, Step, step_of_items, steps_of, result_of, do_form, do_step, do_row, if_formed}
 use Rattle.expand_laws.proofs.Reached.{HasBuiltinOps, HasMadeValues}
-use Rattle.expand_laws.proofs.Sizes.{size, total, items_size}
+use Rattle.expand_laws.proofs.Sizes.{size, total}
 use Rattle.expand_laws.proofs.Fine.{IsSmall, item_small, small_items}
 use Rattle.expand_laws.proofs.Always.{Always, AllAlways, RowEnds, word_form, formed, all_append, all_mapped, all_each, all_found, through}
 use Rattle.expand_laws.proofs.Atoms.{nil_always, variable_always}

@@ -1,12 +1,12 @@
 -- The data that the table reaches from a form of a text, as far as they are looked into: their first item may be anything that a row
 -- makes, the others are data of the text or new variables.
-use Rattle.std.proofs.Common.{◌≡◌, ℕ, ◌+◌, ◌<◌, ◌≤◌, List, [], ◌∷◌, Option, Some, None, refl, ap, subst, arith, ◌∙◌}
+use Rattle.std.proofs.Common.{◌≡◌, ℕ, ◌<◌, ◌≤◌, List, [], ◌∷◌, Some, refl, arith}
 use Rattle.std.specs.List.{AllByRecursion}
 use Rattle.t_base.specs.declared.basics.Span.{Span}
-use Rattle.t_reader.specs.Grammar.{Value, Tree, leaf, pair, fix, char, nil, truth, string, symbol}
+use Rattle.t_reader.specs.Grammar.{Value, fix, char, nil, truth, string, symbol}
 use Rattle.t_forms.specs.Data.{Atom, given, variable, builtin, operation, listing, Datum, atom, cons, items_of, listed}
 use Rattle.expand_laws.proofs.Reached.{IsPure, HasBuiltinOps, HasMadeValues}
-use Rattle.expand_laws.proofs.Sizes.{size, total, Behind, behind, items_size}
+use Rattle.expand_laws.proofs.Sizes.{size, total, behind, items_size}
 
 abbrev pub IsFineAtom : (Value → Type 0) → Atom → Type 0
 IsFineAtom right (given (symbol text)) = Unit {0}
@@ -158,10 +158,6 @@ item_items right (atom s (operation o)) ds h e = cc
 item_items right (atom s listing) ds h e = cc
 item_items right (cons s head tail) ds h e = pure_items right (cons s head tail) ds h e
 
-pub all_items : (right : Value → Type 0) (ds : List Datum) → AllByRecursion (IsPure right) ds → AllByRecursion (IsItem right) ds
-all_items right [] h = tt
-all_items right (d ∷ ds) h = (pure_item right d h.0, all_items right ds h.1)
-
 pub listed_pure : {right : Value → Type 0} → HasMadeValues right → (s : Span) (ds : List Datum) → AllByRecursion (IsPure right) ds → IsPure right (listed s ds)
 listed_pure m s [] h = m.nil_right
 listed_pure m s (d ∷ ds) h = (h.0, listed_pure m s ds h.1)
@@ -180,11 +176,11 @@ pub record IsSmall (right : Value → Type 0) (n : ℕ) (d : Datum) : Type 0 whe
 all_small : (right : Value → Type 0) (n : ℕ) (ds : List Datum) → AllByRecursion (IsPure right) ds → total ds ≤ n → AllByRecursion (IsSmall right n) ds
 all_small right n [] h l = tt
 all_small right n (d ∷ ds) h l =
-    (record { is_pure = h.0; below = omega (arith, l) }, all_small right n ds h.1 (let k : total ds ≤ n = omega (arith, l) in k))
+    (record { is_pure = h.0; below = omega (arith, l) }, all_small right n ds h.1 (omega (arith, l)))
 
 pub item_small : (right : Value → Type 0) (n : ℕ) (d : Datum) (ds : List Datum) → IsItem right d → size d ≤ n → items_of d ≡ Some ds → AllByRecursion (IsSmall right n) ds
 item_small right n d ds h l e =
-    all_small right n ds (item_items right d ds h e) (let k = items_size d ds e in let j : total ds ≤ n = omega (arith, l, k) in j)
+    all_small right n ds (item_items right d ds h e) (let k = items_size d ds e in omega (arith, l, k))
 
 pub small_items : (right : Value → Type 0) (n : ℕ) (d : Datum) (ds : List Datum) → IsSmall right n d → items_of d ≡ Some ds → AllByRecursion (IsSmall right n) ds
-small_items right n d ds h e = item_small right n d ds (pure_item right d h.is_pure) (let l = h.below in let k : size d ≤ n = omega (arith, l) in k) e
+small_items right n d ds h e = item_small right n d ds (pure_item right d h.is_pure) (let l = h.below in omega (arith, l)) e

@@ -1,15 +1,15 @@
 -- The table ends on LET, LET*, LABELS and ITERATE.
-use Rattle.std.proofs.Common.{◌≡◌, ℕ, ◌+◌, ◌<◌, ◌≤◌, Bool, true, false, if◌then◌else◌, List, [], ◌∷◌, ◌++◌, map, Option, Some, None, refl, subst, arith}
+use Rattle.std.proofs.Common.{◌≡◌, ℕ, ◌+◌, ◌<◌, ◌≤◌, Bool, true, false, if◌then◌else◌, List, [], ◌∷◌, map, Some, None, subst, arith}
 use Rattle.std.specs.Prelude.{codes}
 use Rattle.std.specs.List.{AllByRecursion}
 use Rattle.std.specs.Option.{option_map, option_and_then}
 use Rattle.t_base.specs.declared.basics.Span.{Span}
-use Rattle.t_reader.specs.Grammar.{Value, symbol}
-use Rattle.t_forms.specs.Data.{given, Datum, atom, cons, items_of, listed, all_of, binder_of, names}
+use Rattle.t_reader.specs.Grammar.{Value}
+use Rattle.t_forms.specs.Data.{Datum, atom, cons, items_of, listed, all_of, binder_of, names}
 use Rattle.t_rows.specs.Rows.{Part, inside, body, word_, binding, Binding, binders, let_row, let_star_step, let_star_row, lambda_form, procedure_item, is_lambda_word, lambda_item, labels_item, labels_items, labels_node, labels_row, iterate_row}
 use Rattle.expand_laws.proofs.Reached.{IsPure, HasMadeValues}
 use Rattle.expand_laws.proofs.Sizes.{size, total, size_listed, items_size}
-use Rattle.expand_laws.proofs.Fine.{pure_item, pure_ops, all_items, pure_items, listed_pure, listed_tail, IsSmall, item_small, small_items}
+use Rattle.expand_laws.proofs.Fine.{pure_item, pure_ops, listed_pure, listed_tail, IsSmall, item_small, small_items}
 use Rattle.expand_laws.proofs.Always.{Always, AllAlways, RowEnds, all_ops, formed, all_append, all_mapped, all_each, all_found, through, mapped}
 use Rattle.expand_laws.proofs.Blocks.{body_always, lambda_always}
 use Rattle.expand_laws.proofs.Lets.{ValuesAlways, bindings_listed, let_ends, let_form, iterate_ends}
@@ -92,9 +92,11 @@ labels_small right n s (cons t head tail ∷ bs) x below h e =
 
 labels_node_ends : (right : Value → Type 0) (s : Span) (bs : List Datum) (xs : List Binding) → AllAlways right bs → ValuesAlways right xs → RowEnds right (labels_node s bs xs)
 labels_node_ends right s bs [] hb h = body_always right s bs hb
-labels_node_ends right s bs (x ∷ xs) hb h =
-    (tt, all_append (λ (p : Part). Always right p.form) (map (λ y. inside (names (binders (x ∷ xs))) y.value) (x ∷ xs)) (inside (names (binders (x ∷ xs))) (body s bs) ∷ [])
-    (all_mapped (λ (p : Part). Always right p.form) (λ y. inside (names (binders (x ∷ xs))) y.value) (x ∷ xs) h) (body_always right s bs hb, tt))
+labels_node_ends right s bs (x ∷ xs) hb h = (
+  tt,
+  all_append (λ (p : Part). Always right p.form) (map (λ y. inside (names (binders (x ∷ xs))) y.value) (x ∷ xs)) (inside (names (binders (x ∷ xs))) (body s bs) ∷ [])
+      (all_mapped (λ (p : Part). Always right p.form) (λ y. inside (names (binders (x ∷ xs))) y.value) (x ∷ xs) h) (body_always right s bs hb, tt),
+)
 
 pub labels_row_ends : (right : Value → Type 0) (n : ℕ) (s : Span) (ds : List Datum) → Below right n → AllItems right ds → total ds ≤ n → RowEnds right (labels_row s ds)
 labels_row_ends right n s [] below h l = (tt, tt)

@@ -1,15 +1,14 @@
 -- The table ends on LET, OR and ITERATE, where it ends on their parts.
-use Rattle.std.proofs.Common.{◌≡◌, ℕ, List, [], ◌∷◌, ◌++◌, map, Option, Some, None, refl, sym, ap, subst, ◌∙◌}
+use Rattle.std.proofs.Common.{◌≡◌, List, [], ◌∷◌, map, Some, refl, sym, subst, ◌∙◌}
 use Rattle.std.specs.Prelude.{codes}
 use Rattle.std.specs.List.{AllByRecursion}
-use Rattle.std.specs.Option.{option_map, option_and_then}
 use Rattle.std.proofs.lemmas.Option.{same_Some}
 use Rattle.t_base.specs.declared.basics.Span.{Span}
 use Rattle.t_objects.specs.declared.words.Word.TheVariants as word
-use Rattle.t_reader.specs.Grammar.{Value, symbol}
+use Rattle.t_reader.specs.Grammar.{Value}
 use Rattle.t_forms.specs.declared.arena.New.TheVariants as new
-use Rattle.t_forms.specs.Data.{given, variable, Datum, atom, cons, items_of, listed, a_nil, a_variable, all_of, Binder, binder_of, Name, written, made, names}
-use Rattle.t_rows.specs.Rows.{node, let_, labels, Part, plain, inside, body, word_, if_formed, Binding, binding_of, bindings_of, binders, let_node, let_row, lambda_form, name_atom, name_datum, iterate_node, iterate_row, test_answer, or_row}
+use Rattle.t_forms.specs.Data.{Datum, atom, items_of, listed, a_variable, all_of, Binder, binder_of, Name, written, made, names}
+use Rattle.t_rows.specs.Rows.{Part, plain, inside, body, word_, if_formed, Binding, binding_of, bindings_of, binders, let_node, let_row, name_atom, name_datum, iterate_node, iterate_row, test_answer, or_row}
 use Rattle.expand_laws.proofs.Reached.{HasBuiltinOps, HasMadeValues}
 use Rattle.expand_laws.proofs.Sizes.{items_listed}
 use Rattle.expand_laws.proofs.Always.{Always, AllAlways, RowEnds, all_ops, word_form, formed, all_append, all_mapped, all_found, through, mapped}
@@ -44,9 +43,11 @@ bindings_listed right s ds h =
 
 let_node_ends : (right : Value → Type 0) (s : Span) (bs : List Datum) (xs : List Binding) → AllAlways right bs → ValuesAlways right xs → RowEnds right (let_node s bs xs)
 let_node_ends right s bs [] hb h = body_always right s bs hb
-let_node_ends right s bs (x ∷ xs) hb h =
-    (tt, all_append (λ (p : Part). Always right p.form) (map (λ y. plain y.value) (x ∷ xs)) (inside (names (binders (x ∷ xs))) (body s bs) ∷ [])
-    (all_mapped (λ (p : Part). Always right p.form) (λ y. plain y.value) (x ∷ xs) h) (body_always right s bs hb, tt))
+let_node_ends right s bs (x ∷ xs) hb h = (
+  tt,
+  all_append (λ (p : Part). Always right p.form) (map (λ y. plain y.value) (x ∷ xs)) (inside (names (binders (x ∷ xs))) (body s bs) ∷ [])
+      (all_mapped (λ (p : Part). Always right p.form) (λ y. plain y.value) (x ∷ xs) h) (body_always right s bs hb, tt),
+)
 
 pub let_ends : (right : Value → Type 0) (s : Span) (d : Datum) (bs : List Datum) → BindingsAlways right d → AllAlways right bs → RowEnds right (let_row s (d ∷ bs))
 let_ends right s d [] h hb = (tt, tt)

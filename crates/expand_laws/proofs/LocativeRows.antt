@@ -132,7 +132,7 @@ locative_of_ends {right} m n s (atom t a) below h hd l =
 locative_of_ends {right} m n s (cons t head tail) below h hd l =
     let k : size (cons t head tail) ≤ n = omega (arith, l) in
     locative_items_ends m n s (items_of (cons t head tail)) below
-    (λ ds e. (item_small right n (cons t head tail) ds h k e, (let z = items_size (cons t head tail) ds e in let j : 1 + total ds < n = omega (arith, l, z) in j)))
+    (λ ds e. (item_small right n (cons t head tail) ds h k e, (let z = items_size (cons t head tail) ds e in omega (arith, l, z))))
 
 pub locative_row_ends : {right : Value → Type 0} → HasMadeValues right → (n : ℕ) (s : Span) (ds : List Datum) → Below right n → AllItems right ds → AllAlways right ds
     → total ds ≤ n → RowEnds right (locative_row s ds)

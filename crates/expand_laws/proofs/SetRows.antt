@@ -1,23 +1,22 @@
 -- The table ends on SET and OBJECT.
-use Rattle.std.proofs.Common.{◌≡◌, ℕ, ◌+◌, ◌<◌, ◌≤◌, ◌==◌, Bool, true, false, not, if◌then◌else◌, List, [], ◌∷◌, ◌++◌, map, length, Option, Some, None, refl, sym, subst, ◌∙◌, arith}
+use Rattle.std.proofs.Common.{◌≡◌, ℕ, ◌+◌, ◌≤◌, ◌==◌, true, false, not, if◌then◌else◌, List, [], ◌∷◌, ◌++◌, map, length, Option, Some, None, refl, subst, arith}
 use Rattle.std.specs.List.{AllByRecursion}
-use Rattle.std.specs.Option.{option_map, option_and_then}
-use Rattle.std.proofs.lemmas.Option.{same_Some}
+use Rattle.std.specs.Option.{option_and_then}
 use Rattle.t_base.specs.declared.basics.Span.{Span}
 use Rattle.t_base.specs.declared.builtins.Builtin.{Builtin}
 use Rattle.t_prim.specs.Table.{arity_of}
 use Rattle.t_reader.specs.Grammar.{Value}
-use Rattle.t_forms.specs.Data.{operation, Datum, atom, cons, items_of, span_of, listed, an_operation, all_of, binders_of, names}
+use Rattle.t_forms.specs.Data.{Datum, atom, cons, items_of, listed, an_operation, binders_of, names}
 use Rattle.t_forms.specs.Names.{Meaning, a_local, a_global, an_op, the_builtin, the_operation, the_truth, the_listing, none, Scope}
-use Rattle.t_rows.specs.Rows.{Row, stands_for, node, primitive, Part, plain, inside, body, set_name, set_through, not_settable, assigns, set_builtin, set_operation, set_call, meant, set_items, set_place, set_row, Method, method_of_head, method_of_items, methods_of, object_node, object_row}
+use Rattle.t_rows.specs.Rows.{stands_for, node, primitive, Part, plain, inside, body, set_name, set_through, not_settable, assigns, set_builtin, set_operation, set_call, meant, set_items, set_place, set_row, Method, method_of_head, method_of_items, methods_of, object_node, object_row}
 use Rattle.expand_laws.proofs.Reached.{HasMadeValues}
-use Rattle.expand_laws.proofs.Sizes.{size, total, items_listed}
-use Rattle.expand_laws.proofs.Fine.{IsSmall, item_small, small_items}
+use Rattle.expand_laws.proofs.Sizes.{size, total}
+use Rattle.expand_laws.proofs.Fine.{item_small}
 use Rattle.expand_laws.proofs.Always.{Always, AllAlways, RowEnds, formed, either_row, all_append, all_mapped, all_found, plain_parts, through, mapped}
 use Rattle.expand_laws.proofs.Atoms.{operation_always}
 use Rattle.expand_laws.proofs.Calls.{call_form}
 use Rattle.expand_laws.proofs.Blocks.{body_always}
-use Rattle.expand_laws.proofs.Below.{Below, AllItems, AllSmall, small_always, smalls_always, items_always}
+use Rattle.expand_laws.proofs.Below.{Below, AllItems, AllSmall, smalls_always}
 
 -- ---- SET
 
@@ -111,7 +110,7 @@ methods_end right n s ms xs below h l e =
 
     each : (ds : List Datum) → AllItems right ds → total ds ≤ n → AllByRecursion (λ i. AllItems right (i ∷ []) × (size i ≤ n)) ds
     each [] k j = tt
-    each (d ∷ ds) k j = (((k.0, tt), omega (arith, j)), each ds k.1 (let i : total ds ≤ n = omega (arith, j) in i))
+    each (d ∷ ds) k j = (((k.0, tt), omega (arith, j)), each ds k.1 (omega (arith, j)))
 
 object_node_ends : (right : Value → Type 0) (scope : Scope) (p : Datum) (xs : List Method) → Always right p → AllByRecursion (λ x. Always right x.form) xs
     → RowEnds right (object_node scope p xs)

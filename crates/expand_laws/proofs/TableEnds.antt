@@ -1,4 +1,5 @@
--- The table of forms ends on every form of a text.
+-- The table of forms ends on every form of a text. Every row makes its node of smaller data and of a few forms around them, on which the
+-- table is followed to their nodes; or it stands for a smaller form, which is fine.
 use Rattle.std.proofs.Common.{◌≡◌, ℕ, zero, suc, ◌+◌, ◌<◌, ◌≤◌, List, [], ◌∷◌, Option, Some, None, refl, sym, subst, arith}
 use Rattle.t_base.specs.declared.basics.Span.{Span}
 use Rattle.t_objects.specs.declared.words.Word.{Word}
@@ -10,7 +11,7 @@ use Rattle.t_rows.specs.Rows.{Part, Definition, inner_definition, lset_of, defin
 use Rattle.expand_laws.specs.Ends.{Ends, AllEnd, as_form, as_node}
 use Rattle.expand_laws.specs.Ends.{no_parts as no_parts_end, one_part as one_part_ends}
 use Rattle.expand_laws.proofs.Reached.{IsPure, HasMadeValues, Comes, to_form, to_node, AllCome, no_parts, one_part}
-use Rattle.expand_laws.proofs.Sizes.{size, total, size_some, Behind, behind, items_size}
+use Rattle.expand_laws.proofs.Sizes.{size, total, size_some, behind, items_size}
 use Rattle.expand_laws.proofs.Fine.{IsHead, IsFine, head_fine, pure_fine, fine_ops, tail_items}
 use Rattle.expand_laws.proofs.Always.{Always, RowEnds, always}
 use Rattle.expand_laws.proofs.Atoms.{atom_always}
@@ -107,6 +108,9 @@ below_all m (suc n) e l h = fine_always m e (λ d k i. below_all m n d (omega (a
 pub comes : (right : Value → Type 0) → HasMadeValues right → (scope : Scope) → (d : Datum) → IsFine right d → Comes right scope d
 comes right m scope d h = let a : Always right d = below_all m (suc (size d)) d (omega arith) h in a.comes scope
 
+pub comes_pure : (right : Value → Type 0) → HasMadeValues right → (scope : Scope) → (d : Datum) → IsPure right d → Comes right scope d
+comes_pure right m scope d h = comes right m scope d (pure_fine right d h)
+
 -- ---- the public law
 
 mutual
@@ -128,4 +132,4 @@ tree_pure (pair s head tail) = (tree_pure head, tree_pure tail)
 pub table_ends : (scope : Scope) (t : Tree) → Ends scope (datum_of t)
 table_ends scope t =
     comes_ends IsAny scope (datum_of t)
-    (comes IsAny (record { nil_right = tt; truth_right = tt; zero_right = tt; one_right = tt }) scope (datum_of t) (pure_fine IsAny (datum_of t) (tree_pure t)))
+    (comes_pure IsAny (record { nil_right = tt; truth_right = tt; zero_right = tt; one_right = tt }) scope (datum_of t) (tree_pure t))
