@@ -1,2 +1,4 @@
 pub mod Made
 pub mod Reached
+pub mod RowShapes
+pub mod NodeShapes
