@@ -2,3 +2,6 @@ pub mod Made
 pub mod Reached
 pub mod RowShapes
 pub mod NodeShapes
+pub mod LabelsShapes
+pub mod NameShapes
+pub mod CallShapes
