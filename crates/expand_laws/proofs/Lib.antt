@@ -5,3 +5,5 @@ pub mod NodeShapes
 pub mod LabelsShapes
 pub mod NameShapes
 pub mod CallShapes
+pub mod MethodShapes
+pub mod ShapesOfRows
