@@ -7,3 +7,5 @@ pub mod NameShapes
 pub mod CallShapes
 pub mod MethodShapes
 pub mod ShapesOfRows
+pub mod ListedRefusals
+pub mod RefusalsOf
