@@ -9,3 +9,5 @@ pub mod MethodShapes
 pub mod ShapesOfRows
 pub mod ListedRefusals
 pub mod RefusalsOf
+pub mod PureForms
+pub mod FirstOrNone
