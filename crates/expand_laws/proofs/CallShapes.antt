@@ -1,5 +1,5 @@
 -- The shapes of the rows of SET and of calls.
-use Rattle.std.proofs.Common.{◌≡◌, ◌==◌, ℕ, ◌+◌, ◌++◌, Bool, true, false, not, List, [], ◌∷◌, map, length, Option, Some, None, if◌then◌else◌, refl, arith, IfSome, ◌∙◌, sym}
+use Rattle.std.proofs.Common.{◌≡◌, ◌==◌, ℕ, ◌+◌, ◌++◌, Bool, true, false, not, List, [], ◌∷◌, map, length, Option, Some, None, if◌then◌else◌, refl, IfSome, ◌∙◌}
 use Rattle.std.specs.Option.{option_map}
 use Rattle.std.proofs.lemmas.Bool.Decides.{Decides-eqb}
 use Rattle.std.proofs.lemmas.List.{length_push}
@@ -7,11 +7,11 @@ use Rattle.t_base.specs.declared.basics.Span.{Span}
 use Rattle.t_base.specs.declared.builtins.Builtin.{Builtin}
 use Rattle.t_base.specs.declared.builtins.Builtin.TheVariants as Builtins
 use Rattle.t_prim.specs.Table.{arity_of}
-use Rattle.t_forms.specs.Data.{given, variable, builtin, operation, listing, Datum, Name, atom, cons, items_of, name_of, span_of, listed, an_operation, a_number, a_builtin}
-use Rattle.t_forms.specs.Names.{Meaning, a_local, a_global, an_op, the_builtin, the_operation, the_truth, the_listing, none, Scope, meaning}
-use Rattle.t_rows.specs.Rows.{Row, if_formed, plain, node, stands_for, primitive, meant, assigns, not_settable, set_name, set_through, set_builtin, set_operation, set_call, set_items, set_place, set_row, call_node, fold_row, builtin_row, minus_row, builtin_call, list_row, call_meant, call_row}
+use Rattle.t_forms.specs.Data.{given, variable, builtin, operation, listing, Datum, Name, atom, cons, items_of, name_of, listed, an_operation, a_number}
+use Rattle.t_forms.specs.Names.{Meaning, a_local, a_global, the_builtin, the_operation, the_listing, Scope, meaning}
+use Rattle.t_rows.specs.Rows.{if_formed, plain, node, stands_for, primitive, meant, assigns, not_settable, set_name, set_through, set_builtin, set_operation, set_call, set_items, set_place, set_row, call_node, fold_row, builtin_row, minus_row, builtin_call, list_row, call_meant, call_row}
 use Rattle.expand_laws.proofs.NameShapes.{DefinesOwn, IsKnown, meaning_known}
-use Rattle.expand_laws.proofs.RowShapes.{RowShaped, shaped_if_formed, shaped_if}
+use Rattle.expand_laws.proofs.RowShapes.{RowShaped, shaped_if}
 
 known_meant : (scope : Scope) (o : Option Name) → DefinesOwn scope.defined → IfSome (option_map (meaning scope) o) (IsKnown scope)
 known_meant scope None h = tt

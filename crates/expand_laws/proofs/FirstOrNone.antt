@@ -1,16 +1,16 @@
 -- Data whose forms the table ends on have a first refusal, or none.
-use Rattle.std.proofs.Common.{◌≡◌, ◌⊎◌, inl, inr, ℕ, zero, suc, ◌+◌, ◌<◌, ◌≤◌, List, [], ◌∷◌, map, take, length, slice_get, Contains, Option, Some, None, refl, sym, ap, subst, ◌∙◌, arith}
+use Rattle.std.proofs.Common.{◌≡◌, ◌⊎◌, inl, inr, ℕ, zero, suc, ◌<◌, ◌≤◌, List, [], ◌∷◌, map, take, length, slice_get, Contains, Option, Some, None, refl, sym, subst, ◌∙◌, arith}
 use Rattle.std.specs.List.{AllByRecursion}
 use Rattle.std.proofs.lemmas.Bool.{cases_lt}
 use Rattle.std.proofs.lemmas.Option.{slice_get_within, same_Some}
-use Rattle.t_reader.specs.Grammar.{Tree, Value}
+use Rattle.t_reader.specs.Grammar.{Tree}
 use Rattle.t_forms.specs.Data.{Datum, datum_of}
 use Rattle.t_forms.specs.Names.{Scope, Bound}
 use Rattle.t_rows.specs.declared.refusal.Refusal.{Refusal}
 use Rattle.t_rows.specs.declared.refusal.SyntaxKind.TheVariants.{BadForm}
 use Rattle.t_rows.specs.Rows.{refusal, twice, Definition, define, lset, operation_form}
 use Rattle.t_expand.specs.Meaning.{top_scope}
-use Rattle.t_expand.specs.Refusals.{Refused, RefusedDefinition, twice_defined, RefusedTop, RefusedAmong, RefusedIn}
+use Rattle.t_expand.specs.Refusals.{RefusedDefinition, twice_defined, RefusedTop, RefusedAmong, RefusedIn}
 use Rattle.t_expand.specs.Units.{Top, defining, broken, expression, tops_of, definitions_of, defined_name}
 use Rattle.expand_laws.specs.Cores.{HasFirstRefusal}
 use Rattle.expand_laws.specs.Ends.{Ends}
@@ -104,7 +104,7 @@ pub listed_unit : EndsOnGiven → (trees : List Tree) → Listed (RefusedIn (top
 listed_unit ends trees = listed_among ends (definitions_of (tops_of (map datum_of trees))) (tops_of (map datum_of trees)) (tops_given trees)
 
 as_first : (trees : List Tree) → First (RefusedIn (tops_of (map datum_of trees))) → HasFirstRefusal trees
-as_first trees f = record { refusal = f.refusal; is = record { stands = f.stands_; first = f.first } }
+as_first trees f = record { refusal = f.refusal; is = record { stands = f.stands; first = f.first } }
 
 first_or : (trees : List Tree) → First (RefusedIn (tops_of (map datum_of trees))) ⊎ ((r : Refusal) → RefusedIn (tops_of (map datum_of trees)) r → ⊥)
     → HasFirstRefusal trees ⊎ ((r : Refusal) → RefusedIn (tops_of (map datum_of trees)) r → ⊥)

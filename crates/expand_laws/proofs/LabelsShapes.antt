@@ -1,7 +1,8 @@
 -- The shapes of LABELS and ITERATE, whose procedures are LAMBDAs.
-use Rattle.std.proofs.Common.{◌≡◌, ℕ, suc, ◌++◌, Bool, true, false, List, [], ◌∷◌, map, length, Option, Some, None, if◌then◌else◌, codes, refl, sym, ap, subst, ◌∙◌}
+use Rattle.std.proofs.Common.{◌≡◌, ◌++◌, Bool, true, false, List, [], ◌∷◌, map, length, Option, Some, None, if◌then◌else◌, codes, refl, sym, subst, ◌∙◌}
 use Rattle.std.specs.List.{AllByRecursion}
 use Rattle.std.specs.Option.{option_map, option_and_then}
+use Rattle.std.proofs.lemmas.List.{length-map}
 use Rattle.t_base.specs.declared.basics.Span.{Span}
 use Rattle.t_objects.specs.declared.words.Word.{Word}
 use Rattle.t_objects.specs.declared.words.Word.TheVariants as word
@@ -9,7 +10,7 @@ use Rattle.t_forms.specs.Data.{Datum, atom, cons, items_of, listed, word_of, bin
 use Rattle.t_forms.specs.declared.arena.New.TheVariants as new
 use Rattle.t_forms.specs.Names.{Scope}
 use Rattle.t_rows.specs.declared.refusal.Refusal.{Refusal}
-use Rattle.t_rows.specs.Rows.{Row, if_formed, name_datum, Shape, Part, inside, stands_for, node, lambda, labels, body, twice, word_, Binding, binders, binding, bindings_of, lambda_form, lambda_row, is_lambda_word, lambda_item, procedure_item, labels_item, labels_items, labels_node, labels_row, iterate_node, iterate_row, operator_row, items_row, row}
+use Rattle.t_rows.specs.Rows.{Row, if_formed, name_datum, Part, inside, stands_for, node, lambda, labels, body, twice, word_, Binding, binders, binding, bindings_of, lambda_form, lambda_row, is_lambda_word, lambda_item, procedure_item, labels_item, labels_items, labels_node, labels_row, iterate_node, iterate_row, operator_row, items_row, row}
 use Rattle.expand_laws.proofs.Reached.{IsLambdaForm, IsProcedurePart}
 use Rattle.expand_laws.proofs.RowShapes.{RowShaped, shaped_where_none, shaped_if_formed, all_each, each_map, each_true, mapped, chained}
 use Rattle.expand_laws.proofs.NodeShapes.{as_many_names}
@@ -98,20 +99,21 @@ each_lambda s d xs e =
 
 -- ---- the nodes
 
-as_many_parts : (f : Binding → Part) (xs : List Binding) → length (map f xs) ≡ length xs
-as_many_parts f [] = refl
-as_many_parts f (x ∷ xs) = ap suc (as_many_parts f xs)
-
 labels_node_shaped : (scope : Scope) (s : Span) (bs : List Datum) (xs : List Binding) → AllByRecursion HasLambda xs → RowShaped scope (labels_node s bs xs)
 labels_node_shaped scope s bs [] h = tt
 labels_node_shaped scope s bs (x ∷ xs) h =
     let around = names (binders (x ∷ xs)) in
     let ps = map (λ y. inside (names (binders (x ∷ xs))) y.value) (x ∷ xs) in
     let many : length (names (binders (x ∷ xs))) ≡ length ps
-        = as_many_names (x ∷ xs) ∙ sym (as_many_parts (λ y. inside (names (binders (x ∷ xs))) y.value) (x ∷ xs)) in
+    = as_many_names (x ∷ xs) ∙ sym (length-map (x ∷ xs) (λ y. inside (names (binders (x ∷ xs))) y.value)) in
     shaped_where_none scope labels (twice (binders (x ∷ xs))) (ps ++ inside around (body s bs) ∷ [])
-    (λ none. (ps, inside around (body s bs), refl, many,
-    each_map HasLambda (IsProcedurePart (length ps)) (λ y. inside (names (binders (x ∷ xs))) y.value) (λ y i. (many, i)) (x ∷ xs) h))
+    (λ none. (
+      ps,
+      inside around (body s bs),
+      refl,
+      many,
+      each_map HasLambda (IsProcedurePart (length ps)) (λ y. inside (names (binders (x ∷ xs))) y.value) (λ y i. (many, i)) (x ∷ xs) h,
+    ))
 
 pub labels_shaped : (scope : Scope) (s : Span) (ds : List Datum) → RowShaped scope (labels_row s ds)
 labels_shaped scope s [] = tt
@@ -120,10 +122,13 @@ labels_shaped scope s (d ∷ b ∷ bs) =
     shaped_if_formed scope s (labels_node s (b ∷ bs)) (labels_items s d) (λ xs e. labels_node_shaped scope s (b ∷ bs) xs (each_lambda s d xs e))
 
 iterate_node_shaped : (scope : Scope) (s : Span) (bs : List Datum) (f : Binder) (xs : List Binding) → RowShaped scope (iterate_node s bs f xs)
-iterate_node_shaped scope s bs f xs =
-    (inside (f.name ∷ []) (lambda_form s (listed s (map (λ x. name_datum x.binds) xs)) bs) ∷ [],
-    inside (made new.Start ∷ []) (listed s (a_variable f.at new.Start ∷ map (λ x. x.value) xs)), refl, refl,
-    ((refl, made_lambda_form s (listed s (map (λ x. name_datum x.binds) xs)) bs), tt))
+iterate_node_shaped scope s bs f xs = (
+  inside (f.name ∷ []) (lambda_form s (listed s (map (λ x. name_datum x.binds) xs)) bs) ∷ [],
+  inside (made new.Start ∷ []) (listed s (a_variable f.at new.Start ∷ map (λ x. x.value) xs)),
+  refl,
+  refl,
+  ((refl, made_lambda_form s (listed s (map (λ x. name_datum x.binds) xs)) bs), tt),
+)
 
 pub iterate_shaped : (scope : Scope) (s : Span) (ds : List Datum) → RowShaped scope (iterate_row s ds)
 iterate_shaped scope s [] = tt

@@ -110,16 +110,16 @@ least x [] = least_one x
 least x (y ∷ ys) = let l = least y ys in least_of_two x (y ∷ ys) l (precedes_either x l.refusal)
 
 -- the first that stands
-pub record First (stands : Refusal → Type 0) : Type 0 where
+pub record First (holds : Refusal → Type 0) : Type 0 where
   pub refusal : Refusal
-  pub stands_ : stands refusal
-  pub first : (r : Refusal) → stands r → Precedes refusal r
+  pub stands : holds refusal
+  pub first : (r : Refusal) → holds r → Precedes refusal r
 
 of_list : (P : Refusal → Type 0) (rs : List Refusal) → ((r : Refusal) → P r → Contains rs r) → ((r : Refusal) → Contains rs r → P r)
     → First P ⊎ ((r : Refusal) → P r → ⊥)
 of_list P [] all each = inr (λ r p. contains_none r (all r p))
 of_list P (x ∷ xs) all each =
-    let l = least x xs in inl (record { refusal = l.refusal; stands_ = each l.refusal l.there; first = λ r p. l.first r (all r p) })
+    let l = least x xs in inl (record { refusal = l.refusal; stands = each l.refusal l.there; first = λ r p. l.first r (all r p) })
 
 pub first_of_listed : (P : Refusal → Type 0) → Listed P → First P ⊎ ((r : Refusal) → P r → ⊥)
 first_of_listed P l = of_list P l.list l.all l.each

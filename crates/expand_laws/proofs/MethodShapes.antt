@@ -1,7 +1,7 @@
 -- The shape of OBJECT, whose methods have operations that are there.
 use Rattle.std.proofs.Common.{◌≡◌, ℕ, suc, ◌++◌, List, [], ◌∷◌, map, length, Option, Some, None, is_some, if◌then◌else◌, IfSome, inl, inr, refl, sym, ap, subst, ◌∙◌}
 use Rattle.std.specs.List.{AllByRecursion, filter_map, flat_map, cons_option}
-use Rattle.std.specs.Option.{option_map, option_and_then}
+use Rattle.std.specs.Option.{option_and_then}
 use Rattle.std.proofs.lemmas.List.{length-map}
 use Rattle.t_base.specs.declared.basics.Span.{Span}
 use Rattle.t_forms.specs.Data.{given, variable, builtin, operation, listing, Datum, atom, cons, items_of, span_of, all_of, Binder, binder_of, binders_of, names}
@@ -98,8 +98,14 @@ object_node_shaped scope p ms own h =
     let ops = filter_map (λ m. operation_of scope m.op) ms in
     let parts = map (λ m. inside (names m.params) m.form) ms in
     shaped_where_none scope (object ops) (flat_map (method_refusals scope) ms) (plain p ∷ parts)
-    (λ none. (p, parts, refl, as_many_ops scope ms none ∙ sym (length-map ms (λ m. inside (names m.params) m.form)),
-    each_map IsProper HasNames (λ m. inside (names m.params) m.form) (λ m i. named m i) ms h, ops_known scope ms own h))
+    (λ none. (
+      p,
+      parts,
+      refl,
+      as_many_ops scope ms none ∙ sym (length-map ms (λ m. inside (names m.params) m.form)),
+      each_map IsProper HasNames (λ m. inside (names m.params) m.form) (λ m i. named m i) ms h,
+      ops_known scope ms own h,
+    ))
 
 pub object_shaped : (scope : Scope) (s : Span) (ds : List Datum) → DefinesOwn scope.defined → AllByRecursion HasBuiltinOps ds → RowShaped scope (object_row scope s ds)
 object_shaped scope s [] own h = tt

@@ -1,5 +1,5 @@
 -- What a name means in a scope whose definitions are those of a unit, and the shapes of the rows of names.
-use Rattle.std.proofs.Common.{◌≡◌, ℕ, suc, ◌+◌, ◌<◌, ◌≤◌, Bool, true, false, List, [], ◌∷◌, length, Contains, Option, Some, None, if◌then◌else◌, codes, inl, inr, refl, arith, IfSome}
+use Rattle.std.proofs.Common.{◌≡◌, ℕ, suc, ◌+◌, ◌<◌, Bool, true, false, List, [], ◌∷◌, length, Contains, Option, Some, None, if◌then◌else◌, codes, inl, inr, refl, arith, IfSome}
 use Rattle.std.specs.List.{AllByRecursion}
 use Rattle.std.specs.Str.{bytes_eq}
 use Rattle.t_base.specs.declared.basics.Span.{Span}
@@ -7,7 +7,7 @@ use Rattle.t_base.specs.declared.builtins.Builtin.{Builtin}
 use Rattle.t_objects.specs.Words.{spelled}
 use Rattle.t_forms.specs.Builtins.{builtin_named}
 use Rattle.t_forms.specs.Data.{Name, written, made, is_same_name}
-use Rattle.t_forms.specs.Names.{Meaning, a_local, a_global, an_op, the_builtin, the_operation, the_truth, the_listing, none, Bound, Scope, bound, or_else, operation_names, builtin_meaning, beyond, place_from, defined_as, meaning}
+use Rattle.t_forms.specs.Names.{Meaning, a_local, a_global, an_op, the_builtin, the_operation, the_truth, the_listing, none, Bound, Scope, bound, or_else, operation_names, beyond, place_from, defined_as, meaning}
 use Rattle.t_rows.specs.Rows.{name_row}
 use Rattle.t_expand.specs.Units.{Top, Entry, is_global, is_assigned, entries_of, meanings_from, definitions_of}
 use Rattle.expand_laws.proofs.Reached.{IsDefinedGlobal, IsUnitOp}

@@ -1,11 +1,12 @@
 -- The shapes of rows of reserved words.
-use Rattle.std.proofs.Common.{◌≡◌, ℕ, ◌+◌, ◌++◌, Bool, List, [], ◌∷◌, map, length, Option, Some, None, codes, refl, sym, ap, ◌∙◌}
+use Rattle.std.proofs.Common.{◌≡◌, ◌+◌, ◌++◌, List, [], ◌∷◌, map, length, Option, Some, None, codes, refl, sym, ap, ◌∙◌}
 use Rattle.std.specs.Option.{option_and_then}
+use Rattle.std.proofs.lemmas.List.{length-map}
 use Rattle.t_base.specs.declared.basics.Span.{Span}
-use Rattle.t_forms.specs.Data.{given, variable, listed, Datum, atom, cons, items_of, word_of, name_of, binder_of, binders_of, names}
+use Rattle.t_forms.specs.Data.{given, variable, listed, Datum, atom, cons, items_of, word_of, name_of, binders_of, names}
 use Rattle.t_reader.specs.Grammar.{symbol}
 use Rattle.t_forms.specs.Names.{Scope}
-use Rattle.t_rows.specs.Rows.{Row, word_, plain, inside, stands_for, node, lambda, block, let_, body, twice, Binding, binders, bindings_of, is_arrow, is_else, quote_row, lambda_row, if_row, block_row, catch_row, let_node, let_row, let_star_step, let_star_row, do_step, do_row, steps_of, and_row, or_row, cond_plain, cond_clause, cond_row, case_row, case_clauses, test_answer, received, locative_call, locative_items, locative_of, locative_row, inner_definition, Definition, Step}
+use Rattle.t_rows.specs.Rows.{word_, plain, inside, stands_for, node, lambda, let_, body, twice, Binding, binders, bindings_of, is_arrow, is_else, quote_row, lambda_row, if_row, block_row, catch_row, let_node, let_row, let_star_step, let_star_row, do_step, do_row, steps_of, and_row, or_row, cond_plain, cond_clause, cond_row, case_row, case_clauses, locative_call, locative_items, locative_of, locative_row, inner_definition, Definition, Step}
 use Rattle.expand_laws.proofs.RowShapes.{RowShaped, shaped_where_none, shaped_if_formed, shaped_if}
 
 pub quote_shaped : (scope : Scope) (s : Span) (ds : List Datum) → RowShaped scope (quote_row s ds)
@@ -42,26 +43,19 @@ catch_shaped scope s (j ∷ b ∷ bs) = shaped_if_formed scope s _ (name_of j) (
 -- ---- LET
 
 pub as_many_names : (xs : List Binding) → length (names (binders xs)) ≡ length xs
-as_many_names [] = refl
-as_many_names (x ∷ xs) = rw (as_many_names xs) refl
+as_many_names xs = length-map (binders xs) (λ b. b.name) ∙ length-map xs (λ x. x.binds)
 
-values : List Binding → List Datum
+abbrev values : List Binding → List Datum
 values xs = map (λ x. x.value) xs
 
-as_many_values : (xs : List Binding) → length (values xs) ≡ length xs
-unfolding values
-as_many_values [] = refl
-as_many_values (x ∷ xs) = rw (as_many_values xs) refl
-
 value_parts : (xs : List Binding) → map (λ x. plain x.value) xs ≡ map plain (values xs)
-unfolding values
 value_parts [] = refl
 value_parts (x ∷ xs) = rw (value_parts xs) refl
 
 let_node_shaped : (scope : Scope) (s : Span) (bs : List Datum) (xs : List Binding) → RowShaped scope (let_node s bs xs)
 let_node_shaped scope s bs [] = tt
 let_node_shaped scope s bs (x ∷ xs) =
-    let many : length (names (binders (x ∷ xs))) ≡ length (values (x ∷ xs)) = as_many_names (x ∷ xs) ∙ sym (as_many_values (x ∷ xs)) in
+    let many : length (names (binders (x ∷ xs))) ≡ length (values (x ∷ xs)) = as_many_names (x ∷ xs) ∙ sym (length-map (x ∷ xs) (λ y. y.value)) in
     let parts : map (λ y. plain y.value) (x ∷ xs) ≡ map plain (values (x ∷ xs)) = value_parts (x ∷ xs) in
     shaped_where_none scope let_ (twice (binders (x ∷ xs))) _
     (λ none. (values (x ∷ xs), names (binders (x ∷ xs)), body s bs, many, ap (λ l. l ++ inside (names (binders (x ∷ xs))) (body s bs) ∷ []) parts))

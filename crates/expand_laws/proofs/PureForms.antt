@@ -1,13 +1,13 @@
 -- The forms of a unit's definitions have no other atoms than those of the text and the word that makes them LAMBDAs.
-use Rattle.std.proofs.Common.{◌≡◌, Bool, true, false, List, [], ◌∷◌, map, Option, Some, None, if◌then◌else◌, codes, IfSome, refl}
+use Rattle.std.proofs.Common.{Bool, true, false, List, [], ◌∷◌, map, Option, Some, None, if◌then◌else◌, codes, IfSome}
 use Rattle.std.specs.List.{AllByRecursion}
 use Rattle.std.specs.Option.{option_map, option_and_then}
 use Rattle.t_base.specs.declared.basics.Span.{Span}
 use Rattle.t_reader.specs.Grammar.{Tree, leaf, pair, Value, nil, symbol}
 use Rattle.t_objects.specs.declared.words.Word.{Word}
 use Rattle.t_objects.specs.declared.words.Word.TheVariants as word
-use Rattle.t_forms.specs.Data.{Datum, atom, cons, datum_of, items_of, listed, span_of, word_of, Binder, binder_of, binders_of}
-use Rattle.t_rows.specs.Rows.{lambda_form, word_, Definition, define, lset, operation_form, define_procedure, define_of, lset_of, default_of, define_operation_with, define_operation_of, definition_of_word}
+use Rattle.t_forms.specs.Data.{Datum, atom, cons, datum_of, items_of, listed, span_of, word_of, binder_of, binders_of}
+use Rattle.t_rows.specs.Rows.{lambda_form, Definition, define, lset, operation_form, define_procedure, define_of, lset_of, default_of, define_operation_with, define_operation_of, definition_of_word}
 use Rattle.t_expand.specs.Units.{Top, defining, broken, expression, defining_or_broken, defines, definition_of_items, definition_in, top_of, is_herald_items, without_herald, tops_of}
 use Rattle.expand_laws.proofs.Reached.{IsPure}
 use Rattle.expand_laws.proofs.RowShapes.{items_if, each_map}

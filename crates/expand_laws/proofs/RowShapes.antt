@@ -58,24 +58,24 @@ option_onto : {A : Type 0} (P : A → Type 0) (o : Option A) (os : List (Option 
 option_onto P None os h i = tt
 option_onto P (Some x) os h i = each_onto P x (all_of os) (h x refl) i
 
-all_if : {A B : Type 0} (Q : A → Type 0) (P : B → Type 0) (f : A → Option B) → ((a : A) (x : B) → Q a → f a ≡ Some x → P x) → (as_ : List A)
-    → AllByRecursion Q as_ → IfSome (all_of (map f as_)) (AllByRecursion P)
+all_if : {A B : Type 0} (Q : A → Type 0) (P : B → Type 0) (f : A → Option B) → ((a : A) (x : B) → Q a → f a ≡ Some x → P x) → (items : List A)
+    → AllByRecursion Q items → IfSome (all_of (map f items)) (AllByRecursion P)
 all_if Q P f h [] i = tt
-all_if Q P f h (a ∷ as_) i = option_onto P (f a) (map f as_) (λ x e. h a x i.0 e) (all_if Q P f h as_ i.1)
+all_if Q P f h (a ∷ items) i = option_onto P (f a) (map f items) (λ x e. h a x i.0 e) (all_if Q P f h items i.1)
 
 -- what holds of each that a function gives, where it gives all
-pub all_each : {A B : Type 0} (Q : A → Type 0) (P : B → Type 0) (f : A → Option B) → ((a : A) (x : B) → Q a → f a ≡ Some x → P x) → (as_ : List A)
-    (xs : List B) → AllByRecursion Q as_ → all_of (map f as_) ≡ Some xs → AllByRecursion P xs
-all_each Q P f h as_ xs i e = some_each (AllByRecursion P) (all_of (map f as_)) xs e (all_if Q P f h as_ i)
+pub all_each : {A B : Type 0} (Q : A → Type 0) (P : B → Type 0) (f : A → Option B) → ((a : A) (x : B) → Q a → f a ≡ Some x → P x) → (items : List A)
+    (xs : List B) → AllByRecursion Q items → all_of (map f items) ≡ Some xs → AllByRecursion P xs
+all_each Q P f h items xs i e = some_each (AllByRecursion P) (all_of (map f items)) xs e (all_if Q P f h items i)
 
-pub each_map : {A B : Type 0} (Q : A → Type 0) (P : B → Type 0) (f : A → B) → ((a : A) → Q a → P (f a)) → (as_ : List A) → AllByRecursion Q as_
-    → AllByRecursion P (map f as_)
+pub each_map : {A B : Type 0} (Q : A → Type 0) (P : B → Type 0) (f : A → B) → ((a : A) → Q a → P (f a)) → (items : List A) → AllByRecursion Q items
+    → AllByRecursion P (map f items)
 each_map Q P f h [] i = tt
-each_map Q P f h (a ∷ as_) i = (h a i.0, each_map Q P f h as_ i.1)
+each_map Q P f h (a ∷ items) i = (h a i.0, each_map Q P f h items i.1)
 
-pub each_true : {A : Type 0} (as_ : List A) → AllByRecursion (λ a. Unit {0}) as_
+pub each_true : {A : Type 0} (items : List A) → AllByRecursion (λ a. Unit {0}) items
 each_true [] = tt
-each_true (a ∷ as_) = (tt, each_true as_)
+each_true (a ∷ items) = (tt, each_true items)
 
 -- what an option gives behind another
 pub mapped : {A B : Type 0} (f : A → B) (o : Option A) (y : B) → option_map f o ≡ Some y → (x : A) × (o ≡ Some x) × (y ≡ f x)
