@@ -1,3 +1,5 @@
+pub mod Constants
 pub mod Counting
+pub mod Gaining
 pub mod Made
 pub mod Reached
