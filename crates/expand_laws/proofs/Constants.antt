@@ -80,6 +80,7 @@ string_made names at bytes s right quoted =
   where
     wider : (low n : ℕ) → 0 < n → Once low (low + n) (low ∷ [])
     wider low n some = once_one low (low + n) (omega arith)
+
     there : (shared : Shared) → HasStock names (record { strings = s.strings ++ bytes ∷ []; pairs = s.pairs; next = s.next }) shared
         → slice_get shared.strings.items (length s.strings) ≡ Some bytes
     there shared h = slice_get-Adds (s.strings ++ bytes ∷ []) shared.strings.items (length s.strings) bytes h.strings (last_there s.strings bytes)
@@ -170,10 +171,21 @@ pair_count : (at : Const → List ℕ) (of : Core → List ℕ) → ((c : Const)
     ≡ times k (flat_map (λ (p : Const × Const). at p.0 ++ at p.1) ps ++ flat_map of (Node.Const a ∷ Node.Const b ∷ [])) + times k (at c)
 pair_count at of same k a b c ps =
     let f : Const × Const → List ℕ = λ p. at p.0 ++ at p.1 in
-    omega
-    (arith, times_append k (flat_map f (ps ++ (a, b) ∷ [])) (of (Node.Const c) ++ []), times_flat f k ps ((a, b) ∷ []), times_append k (at a ++ at b) [], times_append k (at a) (at b),
-      times_append k (of (Node.Const c)) [], times_append k (flat_map f ps) (of (Node.Const a) ++ (of (Node.Const b) ++ [])), times_append k (of (Node.Const a)) (of (Node.Const b) ++ []),
-      times_append k (of (Node.Const b)) [], times_none k, ap (times k) (same a), ap (times k) (same b), ap (times k) (same c))
+    omega (
+      arith,
+      times_append k (flat_map f (ps ++ (a, b) ∷ [])) (of (Node.Const c) ++ []),
+      times_flat f k ps ((a, b) ∷ []),
+      times_append k (at a ++ at b) [],
+      times_append k (at a) (at b),
+      times_append k (of (Node.Const c)) [],
+      times_append k (flat_map f ps) (of (Node.Const a) ++ (of (Node.Const b) ++ [])),
+      times_append k (of (Node.Const a)) (of (Node.Const b) ++ []),
+      times_append k (of (Node.Const b)) [],
+      times_none k,
+      ap (times k) (same a),
+      ap (times k) (same b),
+      ap (times k) (same c),
+    )
 
 pair_made : (names : List (List ℕ)) (s : Span) (head tail : Datum) (before : Stock) (h : ConstantMade names head before) → ConstantMade names tail h.after
     → ConstantMade names (cons s head tail) before
@@ -215,14 +227,17 @@ pair_made names s head tail before h t =
   where
     all : Stock
     all = record { strings = t.after.strings; pairs = t.after.pairs ++ (h.const, t.const) ∷ []; next = t.after.next }
+
     back : (shared : Shared) → HasStock names all shared → HasStock names t.after shared
     back shared i = record {
       names_are = i.names_are;
       strings = i.strings;
       pairs = Adds_trans t.after.pairs (t.after.pairs ++ (h.const, t.const) ∷ []) shared.pairs.items (record { more = (h.const, t.const) ∷ []; is = refl }) i.pairs;
     }
+
     front : (shared : Shared) → HasStock names all shared → HasStock names h.after shared
     front shared i = stock_before names h.after t.after (Node.Const t.const ∷ []) shared t.gains (back shared i)
+
     there : (shared : Shared) → HasStock names all shared → slice_get shared.pairs.items (length t.after.pairs) ≡ Some (h.const, t.const)
     there shared i = slice_get-Adds (t.after.pairs ++ (h.const, t.const) ∷ []) shared.pairs.items (length t.after.pairs) (h.const, t.const) i.pairs
         (last_there t.after.pairs (h.const, t.const))

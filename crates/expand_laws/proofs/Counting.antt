@@ -123,6 +123,7 @@ once_between low high ks o i d lt =
     low_of : (k : ℕ) → 1 ≤ times k ks → (k < low) ⊎ (low ≤ k) → low ≤ k
     low_of k there (inl lt) = absurd (omega (arith, o.below k lt))
     low_of k there (inr le) = le
+
     high_of : (k : ℕ) → 1 ≤ times k ks → (k < high) ⊎ (high ≤ k) → k < high
     high_of k there (inl lt) = lt
     high_of k there (inr le) = absurd (omega (arith, o.above k le))

@@ -24,9 +24,14 @@ named_sum : (at : Const → List ℕ) (of : Core → List ℕ) (k : ℕ) (xs ys 
     ≡ times k (flat_map (λ (p : Const × Const). at p.0 ++ at p.1) ps ++ flat_map of xs) + times k (flat_map (λ (p : Const × Const). at p.0 ++ at p.1) qs ++ flat_map of ys)
 named_sum at of k xs ys ps qs =
     let f : Const × Const → List ℕ = λ p. at p.0 ++ at p.1 in
-    omega
-    (arith, times_append k (flat_map f (ps ++ qs)) (flat_map of (xs ++ ys)), times_flat f k ps qs, times_flat of k xs ys, times_append k (flat_map f ps) (flat_map of xs),
-      times_append k (flat_map f qs) (flat_map of ys))
+    omega (
+      arith,
+      times_append k (flat_map f (ps ++ qs)) (flat_map of (xs ++ ys)),
+      times_flat f k ps qs,
+      times_flat of k xs ys,
+      times_append k (flat_map f ps) (flat_map of xs),
+      times_append k (flat_map f qs) (flat_map of ys),
+    )
 
 named_same : (at : Const → List ℕ) (of : Core → List ℕ) (k : ℕ) (xs ys : List Core) (ps : List (Const × Const))
     → times k (flat_map of ys) ≡ times k (flat_map of xs)

@@ -2,4 +2,5 @@ pub mod Constants
 pub mod Counting
 pub mod Gaining
 pub mod Made
+pub mod Placing
 pub mod Reached
