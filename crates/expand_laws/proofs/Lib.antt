@@ -4,3 +4,4 @@ pub mod Gaining
 pub mod Made
 pub mod Placing
 pub mod Reached
+pub mod Segments

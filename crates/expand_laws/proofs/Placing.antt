@@ -51,6 +51,12 @@ placed [] ks = []
 placed (s ∷ seats) [] = []
 placed (s ∷ seats) (k ∷ ks) = part k s.binds s.tail ∷ placed seats ks
 
+pub placed_places : (seats : List Seat) (ks : List ℕ) → length ks ≡ length seats → map (λ (p : Part). p.at) (placed seats ks) ≡ ks
+placed_places [] [] e = refl
+placed_places [] (k ∷ ks) e = absurd (omega arith)
+placed_places (s ∷ seats) [] e = absurd (omega arith)
+placed_places (s ∷ seats) (k ∷ ks) e = ap (λ l. k ∷ l) (placed_places seats ks (omega arith))
+
 -- ---- trees
 
 -- the parts of each node stand before it, where the first one stands at this place
