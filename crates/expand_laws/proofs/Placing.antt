@@ -7,7 +7,8 @@ use Rattle.std.proofs.lemmas.List.{append-nil, length-append}
 use Rattle.std.proofs.lemmas.List.Elements.{All-nil, All-cons, All-head, All-weaker}
 use Rattle.t_base.specs.declared.basics.Var.{Var}
 use Rattle.t_core.specs.declared.forms.Core.{Core}
-use Rattle.t_core.specs.Nodes.{Part, part, places_of}
+use Rattle.t_core.specs.declared.forms.Core.TheVariants as Node
+use Rattle.t_core.specs.Nodes.{Part, part, early, block_parts, parts_of, places_of}
 use Rattle.t_core.specs.Whole.{IsTree}
 use Rattle.t_expand.proofs.QuotedLemmas.{slice_get-append}
 use Rattle.expand_laws.proofs.Counting.{times, times_count, times_none, times_append, times_flat, times_one, times_not_one}
@@ -51,11 +52,42 @@ placed [] ks = []
 placed (s ∷ seats) [] = []
 placed (s ∷ seats) (k ∷ ks) = part k s.binds s.tail ∷ placed seats ks
 
-pub placed_places : (seats : List Seat) (ks : List ℕ) → length ks ≡ length seats → map (λ (p : Part). p.at) (placed seats ks) ≡ ks
+placed_places : (seats : List Seat) (ks : List ℕ) → length ks ≡ length seats → map (λ (p : Part). p.at) (placed seats ks) ≡ ks
 placed_places [] [] e = refl
 placed_places [] (k ∷ ks) e = absurd (omega arith)
 placed_places (s ∷ seats) [] e = absurd (omega arith)
 placed_places (s ∷ seats) (k ∷ ks) e = ap (λ l. k ∷ l) (placed_places seats ks (omega arith))
+
+last_place : (ps : List Part) (k : ℕ) (vars : List Var) (a b : Bool) → map (λ (p : Part). p.at) (ps ++ part k vars a ∷ []) ≡ map (λ (p : Part). p.at) (ps ++ part k vars b ∷ [])
+last_place [] k vars a b = refl
+last_place (p ∷ ps) k vars a b = ap (λ l. p.at ∷ l) (last_place ps k vars a b)
+
+block_places : (ks : List ℕ) (a b : Bool) → map (λ (p : Part). p.at) (block_parts ks a) ≡ map (λ (p : Part). p.at) (block_parts ks b)
+block_places [] a b = refl
+block_places (k ∷ []) a b = refl
+block_places (k ∷ next ∷ ks) a b = ap (λ l. k ∷ l) (block_places (next ∷ ks) a b)
+
+-- the places of the parts are the same in a tail place
+tail_places : (c : Core) (tail : Bool) → places_of c ≡ map (λ (p : Part). p.at) (parts_of c tail)
+tail_places (Node.Const c) tail = refl
+tail_places (Node.Local v) tail = refl
+tail_places (Node.Global g) tail = refl
+tail_places (Node.Builtin p) tail = refl
+tail_places (Node.Op o) tail = refl
+tail_places (Node.Lambda params body) tail = refl
+tail_places (Node.If test a b) tail = refl
+tail_places (Node.Block items) tail = block_places items false tail
+tail_places (Node.Let vars values body) tail = last_place (map early values) body vars false tail
+tail_places (Node.Labels vars lambdas body) tail = last_place (map (λ k. part k vars false) lambdas) body vars false tail
+tail_places (Node.SetLocal v value) tail = refl
+tail_places (Node.SetGlobal g value) tail = refl
+tail_places (Node.Catch v body) tail = refl
+tail_places (Node.Object proc methods) tail = refl
+tail_places (Node.Call operator operands last) tail = refl
+tail_places (Node.Prim p operands) tail = refl
+
+pub places_by_parts : (c : Core) (tail : Bool) (seats : List Seat) (ks : List ℕ) → length ks ≡ length seats → parts_of c tail ≡ placed seats ks → places_of c ≡ ks
+places_by_parts c tail seats ks e f = tail_places c tail ∙ ap (map (λ (p : Part). p.at)) f ∙ placed_places seats ks e
 
 -- ---- trees
 

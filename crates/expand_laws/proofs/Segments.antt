@@ -10,7 +10,7 @@ use Rattle.t_base.specs.declared.basics.Var.{Var}
 use Rattle.t_base.specs.declared.shared_parts.Shared.{Shared}
 use Rattle.t_core.specs.declared.forms.Core.{Core}
 use Rattle.t_core.specs.declared.forms.Core.TheVariants as Node
-use Rattle.t_core.specs.Nodes.{parts_of, places_of, is_lambda}
+use Rattle.t_core.specs.Nodes.{parts_of, is_lambda}
 use Rattle.t_core.specs.Nodes.{Part as NodePart}
 use Rattle.t_core.specs.Whole.{NamesAreThere, IsInPlace, IsScopedWithin, is_lambda_at}
 use Rattle.t_core.specs.Whole.{IsShaped as IsNodeShaped}
@@ -20,7 +20,7 @@ use Rattle.t_rows.specs.Rows.{stands_for, node, Shape, lambda, Part, inside, row
 use Rattle.t_expand.specs.Meaning.{Fits, Nodes, Means, as_form, as_node, AllMean, no_parts, one_part}
 use Rattle.expand_laws.proofs.Gaining.{Gains, gains_none, gains_both, gains_swapped, stock_before}
 use Rattle.expand_laws.proofs.Made.{Stock, HasStock, HasDefined}
-use Rattle.expand_laws.proofs.Placing.{Sits, sits_front, sits_back, sits_last, Seat, placed, placed_places, Grown, grown_none, grown_more, grown_node}
+use Rattle.expand_laws.proofs.Placing.{Sits, sits_front, sits_back, sits_last, Seat, placed, places_by_parts, Grown, grown_none, grown_more, grown_node}
 use Rattle.expand_laws.proofs.Reached.{IsLambdaForm}
 
 -- the nodes of a form in the scope where the local names mean these variables, from the start on
@@ -122,7 +122,6 @@ pub record Choice (names : List (List ℕ)) (vars : List Var) (scope : Scope) (t
   pub core : List ℕ → Core
   pub gains : (ks : List ℕ) → length ks ≡ length seats → Gains names before after (core ks ∷ [])
   pub parts_are : (ks : List ℕ) → length ks ≡ length seats → parts_of (core ks) tail ≡ placed seats ks
-  pub places_are : (ks : List ℕ) → length ks ≡ length seats → places_of (core ks) ≡ ks
   pub fits : (ks : List ℕ) → length ks ≡ length seats → (shared : Shared) → HasStock names after shared → Fits shared vars tail shape (core ks)
   pub in_place : (ks : List ℕ) → IsInPlace vars tail (core ks)
   pub shaped : (ks : List ℕ) → length ks ≡ length seats → (shared : Shared) (all : List Core) → HasDefined scope.defined shared → AreLambdas all parts ks
@@ -161,7 +160,7 @@ node_segment names vars scope d tail start before shape parts is c x =
       root = start + length x.nodes;
       after = x.after;
       gains = gains_swapped names before x.after (core ∷ []) x.nodes (gains_both names before c.after x.after (core ∷ []) x.nodes (c.gains x.places x.count) x.gains);
-      grown = grown_node start x.nodes core x.places (c.places_are x.places x.count) x.grown;
+      grown = grown_node start x.nodes core x.places (places_by_parts core tail c.seats x.places x.count (c.parts_are x.places x.count)) x.grown;
       spans_are = omega (arith, length-append x.spans (span_of d ∷ []), count, x.spans_are);
       some = omega (arith, count);
       means = λ shared n h i j.
