@@ -170,6 +170,10 @@ block_seated [] tail = tt
 block_seated (d ∷ []) tail = (refl, tt)
 block_seated (d ∷ e ∷ ds) tail = (refl, block_seated (e ∷ ds) tail)
 
+block_count : (d : Datum) (ds : List Datum) (tail : Bool) → 0 < length (block_seats (d ∷ ds) tail)
+block_count d [] tail = omega arith
+block_count d (f ∷ ds) tail = omega arith
+
 block_placed : (ds : List Datum) (tail : Bool) (ks : List ℕ) → length ks ≡ length (block_seats ds tail) → block_parts ks tail ≡ placed (block_seats ds tail) ks
 block_placed [] tail [] e = refl
 block_placed [] tail (k ∷ ks) e = absurd (omega arith)
@@ -177,16 +181,8 @@ block_placed (d ∷ []) tail [] e = absurd (omega arith)
 block_placed (d ∷ []) tail (k ∷ []) e = refl
 block_placed (d ∷ []) tail (k ∷ l ∷ ks) e = absurd (omega arith)
 block_placed (d ∷ f ∷ ds) tail [] e = absurd (omega arith)
-block_placed (d ∷ f ∷ ds) tail (k ∷ []) e = absurd (omega (arith, block_some f ds tail))
-  where
-    block_some : (d : Datum) (ds : List Datum) (tail : Bool) → 0 < length (block_seats (d ∷ ds) tail)
-    block_some d [] tail = omega arith
-    block_some d (f ∷ ds) tail = omega arith
+block_placed (d ∷ f ∷ ds) tail (k ∷ []) e = absurd (omega (arith, block_count f ds tail))
 block_placed (d ∷ f ∷ ds) tail (k ∷ l ∷ ks) e = ap (λ x. early k ∷ x) (block_placed (f ∷ ds) tail (l ∷ ks) (omega arith))
-
-block_count : (d : Datum) (ds : List Datum) (tail : Bool) → 0 < length (block_seats (d ∷ ds) tail)
-block_count d [] tail = omega arith
-block_count d (f ∷ ds) tail = omega arith
 
 pub block_choice : (names : List (List ℕ)) (vars : List Var) (scope : Scope) (tail : Bool) (d : Datum) (ds : List Datum) (before : Stock)
     → Choice names vars scope tail block (map plain (d ∷ ds)) before

@@ -1,3 +1,4 @@
+pub mod BinderChoices
 pub mod Choices
 pub mod Constants
 pub mod Counting
