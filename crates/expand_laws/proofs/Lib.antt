@@ -2,8 +2,10 @@ pub mod BinderChoices
 pub mod Choices
 pub mod Constants
 pub mod Counting
+pub mod Forming
 pub mod Gaining
 pub mod Made
+pub mod ObjectChoice
 pub mod Placing
 pub mod Reached
 pub mod Segments
