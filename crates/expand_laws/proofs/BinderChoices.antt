@@ -179,10 +179,11 @@ labels_choice names vars scope tail ps body before same procs =
           ap (λ l. l ++ part (last ks) bound tail ∷ []) (label_placed bound ps (front ks) (front_count (label_seats bound ps) s ks e)) ∙ sym (last_placed (label_seats bound ps) s ks e);
       fits = λ ks e shared h. tt;
       in_place = λ ks. tt;
-      shaped = λ ks e shared all h i.
-          (count ∙ sym (front_count (label_seats bound ps) s ks e ∙ label_count bound ps),
-            All-from_recursion (λ k. IsTrue (is_lambda_at all k)) (front ks)
-            (label_lambdas all n ps body ks (omega (arith, e, length-append (label_seats bound ps) (s ∷ []), label_count bound ps, length-append ps (body ∷ []))) procs i));
+      shaped = λ ks e shared all h i. (
+        count ∙ sym (front_count (label_seats bound ps) s ks e ∙ label_count bound ps),
+        All-from_recursion (λ k. IsTrue (is_lambda_at all k)) (front ks)
+            (label_lambdas all n ps body ks (omega (arith, e, length-append (label_seats bound ps) (s ∷ []), label_count bound ps, length-append ps (body ∷ []))) procs i),
+      );
       named = λ ks shared h i. tt;
       is_lambda = λ ks e. cc;
       lambda_is = λ ks e ms f g h. absurd (other e);

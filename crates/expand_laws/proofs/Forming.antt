@@ -1,10 +1,12 @@
 -- Each form on which the table ends and in which nothing is refused has nodes.
 use Rattle.std.proofs.Common.{◌≡◌, ℕ, suc, ◌+◌, Bool, true, false, List, [], ◌∷◌, ◌++◌, map, length, Some, refl, sym, ap, subst, ◌∙◌, arith}
 use Rattle.std.specs.Prelude.{Contains}
-use Rattle.std.specs.List.{AllByRecursion}
+use Rattle.std.specs.List.{flat_map}
 use Rattle.std.proofs.lemmas.List.{length-append}
 use Rattle.t_base.specs.declared.basics.Var.{Var}
+use Rattle.t_core.specs.Nodes.{binders_of}
 use Rattle.t_rows.specs.declared.refusal.Refusal.{Refusal}
+use Rattle.t_reader.specs.Grammar.{Value}
 use Rattle.t_forms.specs.Data.{Datum, Name}
 use Rattle.t_forms.specs.Names.{Scope, Bound, within}
 use Rattle.t_rows.specs.Rows.{stands_for, node, Shape, constant, local, global, builtin_value, op_value, lambda, if_, block, let_, labels, set_local, set_global, catch_, object, call, primitive, nothing, Part, plain, inside, row}
@@ -12,7 +14,8 @@ use Rattle.t_expand.specs.Meaning.{top_scope}
 use Rattle.t_expand.specs.Refusals.{Refused, in_form, at_form, in_part}
 use Rattle.expand_laws.proofs.BinderChoices.{lambda_choice, catch_choice, let_choice, labels_choice}
 use Rattle.expand_laws.proofs.Choices.{constant_choice, local_choice, global_choice, builtin_choice, op_choice, if_choice, block_choice, set_local_choice, set_global_choice, call_choice, primitive_choice}
-use Rattle.expand_laws.proofs.Made.{Stock, FormMade, IsRight}
+use Rattle.expand_laws.proofs.Counting.{once_pairs, once_between}
+use Rattle.expand_laws.proofs.Made.{Stock, FormMade, IsRight, numbers, strings_named, pairs_named}
 use Rattle.expand_laws.proofs.ObjectChoice.{object_choice}
 use Rattle.expand_laws.proofs.Placing.{Seat, sits_all, is_tree}
 use Rattle.expand_laws.proofs.Reached.{HasBuiltinOps, IsRightShape, Comes, to_form, to_node, AllCome, no_parts, one_part, IsShaped}
@@ -57,3 +60,70 @@ choice names vars scope tail call parts before count right is =
 choice names vars scope tail (primitive p) parts before count right is =
     subst (λ ps. Choice names vars scope tail (primitive p) ps before) (sym is.2) (primitive_choice names vars scope tail p is.0 before is.1)
 choice names vars scope tail nothing parts before count right is = absurd is
+
+contains_first : {A : Type 0} (x : A) (xs : List A) → Contains (x ∷ xs) x
+contains_first x xs = (0, omega arith, refl)
+
+contains_more : {A : Type 0} (x y : A) (xs : List A) → Contains xs y → Contains (x ∷ xs) y
+contains_more x y xs h = (suc h.0, omega (arith, h.1), h.2)
+
+both_count : {A B : Type 0} (xs us : List A) (ys vs : List B) → length xs ≡ length ys → length us ≡ length vs → length (ys ++ vs) ≡ length (xs ++ us)
+both_count xs us ys vs e f = omega (arith, length-append xs us, length-append ys vs)
+
+mutual
+  pub segment : RowsShaped → (right : Value → Type 0) (names : List (List ℕ)) → ((shape : Shape) → IsRightShape right shape → IsRightShape (IsRight names) shape) → (scope : Scope) (d : Datum) → Comes right scope d → ((r : Refusal) → Refused scope d r → ⊥) → (vars : List Var)
+      → length vars ≡ length scope.locals → (tail : Bool) (start : ℕ) (before : Stock) → Segment names vars scope d tail start before
+  segment rows right names same scope d (to_form _ _ e is h) none vars count tail start before =
+      form_segment names vars scope d e tail start before is (segment rows right names same scope e h (λ r i. none r (in_form scope d e r is i)) vars count tail start before)
+  segment rows right names same scope d (to_node _ _ shape [] parts is ops pure all) none vars count tail start before =
+      let c = choice names vars scope tail shape parts before count (same shape pure) (rows scope d shape parts ops is) in
+      node_segment names vars scope d tail start before shape parts is c
+      (segments rows right names same scope parts all (λ r p there i. none r (in_part scope d r shape [] parts p is there i)) vars count c.seats c.seated start c.after)
+  segment rows right names same scope d (to_node _ _ shape (r ∷ rs) parts is ops pure all) none vars count tail start before =
+      absurd (none r (at_form scope d r shape (r ∷ rs) parts is (contains_first r rs)))
+
+  pub segments : RowsShaped → (right : Value → Type 0) (names : List (List ℕ)) → ((shape : Shape) → IsRightShape right shape → IsRightShape (IsRight names) shape) → (scope : Scope) (parts : List Part) → AllCome right scope parts
+      → ((r : Refusal) (p : Part) → Contains parts p → Refused (within scope p.binds) p.form r → ⊥) → (vars : List Var) → length vars ≡ length scope.locals → (seats : List Seat)
+      → AreSeated parts seats → (start : ℕ) (before : Stock) → Segments names vars scope parts seats start before
+  segments rows right names same scope parts (no_parts _) none vars count [] seated start before = no_segments names vars scope start before
+  segments rows right names same scope parts (no_parts _) none vars count (s ∷ seats) seated start before = absurd seated
+  segments rows right names same scope parts (one_part _ p ps h all) none vars count [] seated start before = absurd seated
+  segments rows right names same scope parts (one_part _ p ps h all) none vars count (s ∷ seats) seated start before =
+      let x = segment rows right names same (within scope p.binds) p.form h (λ r i. none r p (contains_first p ps) i) (s.binds ++ vars) (both_count p.binds scope.locals s.binds vars seated.0 (sym count)) s.tail start before in
+      more_segments names vars scope p s ps seats start before seated.0 x
+      (segments rows right names same scope ps all (λ r q there i. none r q (contains_more p q ps there) i) vars count seats seated.1 (start + length x.nodes) x.after)
+
+-- the nodes of a whole form
+pub form_made : (names : List (List ℕ)) (defined : List Bound) (d : Datum) (before : Stock) → RowsShaped → Comes (IsRight names) (top_scope defined) d
+    → ((r : Refusal) → Refused (top_scope defined) d r → ⊥) → (after : Stock) × FormMade names defined d before after
+form_made names defined d before rows comes none =
+    let x = segment rows (IsRight names) names (λ shape h. h) (top_scope defined) d comes none [] refl false 0 before in (
+      x.after,
+      record {
+        nodes = x.nodes;
+        spans = x.spans;
+        root = x.root;
+        new_strings = x.gains.new_strings;
+        new_pairs = x.gains.new_pairs;
+        strings_are = x.gains.strings_are;
+        pairs_are = x.gains.pairs_are;
+        next = x.gains.next;
+        spans_are = x.spans_are;
+        some = x.some;
+        means = λ shared h. x.means shared (record { nodes = x.nodes; spans = x.spans }) h (sits_all x.nodes) (sits_all x.spans);
+        tree = is_tree x.nodes x.root x.grown;
+        scoped = x.scoped x.nodes (sits_all x.nodes) (length x.nodes) (omega arith);
+        bound_once = once_pairs before.next x.after.next (numbers (flat_map binders_of x.nodes)) x.gains.bound;
+        bound_between = once_between before.next x.after.next (numbers (flat_map binders_of x.nodes)) x.gains.bound;
+        shaped = λ shared h. x.shaped shared x.nodes h (sits_all x.nodes);
+        named = x.named;
+        strings_once = once_pairs (length before.strings) (length x.after.strings) (strings_named x.nodes x.gains.new_pairs) x.gains.strings;
+        strings_between = once_between (length before.strings) (length x.after.strings) (strings_named x.nodes x.gains.new_pairs) x.gains.strings;
+        pairs_once = once_pairs (length before.pairs) (length x.after.pairs) (pairs_named x.nodes x.gains.new_pairs) x.gains.pairs;
+        pairs_between = once_between (length before.pairs) (length x.after.pairs) (pairs_named x.nodes x.gains.new_pairs) x.gains.pairs;
+        ascii = x.gains.ascii;
+        pairs_right = x.gains.pairs_right;
+        lower = x.gains.lower;
+        root_is = λ ns e is. x.root_is x.nodes (sits_all x.nodes) ns e is;
+      },
+    )

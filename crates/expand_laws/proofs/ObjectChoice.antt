@@ -115,5 +115,6 @@ object_choice names vars scope tail ops d ps before same named known =
   where
     other : object ops ≡ lambda → ⊥
     other e = cc
+
     behind : (ks : List ℕ) → length ks ≡ suc (length (method_seats before.next ps)) → length (rest ks) ≡ length ps
     behind ks e = rest_count ks (length ps) (omega (arith, e, seats_count before.next ps))

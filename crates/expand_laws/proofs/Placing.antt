@@ -147,6 +147,7 @@ grown_more start xs ys root roots x y =
     sum : (k : ℕ) → times k (flat_map places_of (xs ++ ys)) + times k (root ∷ roots)
         ≡ (times k (flat_map places_of xs) + times k (root ∷ [])) + (times k (flat_map places_of ys) + times k roots)
     sum k = omega (arith, times_flat places_of k xs ys, times_append k (root ∷ []) roots)
+
     by : (k : ℕ) → start ≤ k → k < start + length xs + length ys → (k < start + length xs) ⊎ (start + length xs ≤ k)
         → times k (flat_map places_of (xs ++ ys)) + times k (root ∷ roots) ≡ 1
     by k low high (inl lt) = omega (arith, sum k, x.once k low lt, y.below k lt)
@@ -169,6 +170,7 @@ grown_node start more c roots are x =
     sum : (k : ℕ) → times k (flat_map places_of (more ++ c ∷ [])) + times k ((start + length more) ∷ [])
         ≡ (times k (flat_map places_of more) + times k roots) + times k ((start + length more) ∷ [])
     sum k = omega (arith, times_flat places_of k more (c ∷ []), ap (times k) (append-nil (places_of c) ∙ are))
+
     by : (k : ℕ) → start ≤ k → k < suc (start + length more) → (k < start + length more) ⊎ (start + length more ≤ k)
         → times k (flat_map places_of (more ++ c ∷ [])) + times k ((start + length more) ∷ []) ≡ 1
     by k low high (inl lt) = omega (arith, sum k, x.once k low lt, times_not_one k (start + length more) (λ e. omega arith))
