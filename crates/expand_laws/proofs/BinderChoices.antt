@@ -1,14 +1,12 @@
 -- What is chosen for nodes that bind variables.
-use Rattle.std.proofs.Common.{◌≡◌, ℕ, zero, suc, ◌+◌, ◌<◌, ◌≤◌, Bool, true, false, IsTrue, List, [], ◌∷◌, ◌++◌, map, length, Option, Some, None, refl, sym, ap, subst, ◌∙◌, arith}
-use Rattle.std.specs.Prelude.{All}
+use Rattle.std.proofs.Common.{◌≡◌, ℕ, zero, suc, ◌+◌, Bool, true, false, IsTrue, List, [], ◌∷◌, ◌++◌, map, length, refl, sym, ap, ◌∙◌, arith}
 use Rattle.std.specs.List.{AllByRecursion}
 use Rattle.std.proofs.lemmas.List.{length-append}
 use Rattle.std.proofs.lemmas.List.Elements.{All-from_recursion}
 use Rattle.t_base.specs.declared.basics.Var.{Var}
 use Rattle.t_core.specs.declared.forms.Core.{Core}
 use Rattle.t_core.specs.declared.forms.Core.TheVariants as Node
-use Rattle.t_core.specs.Nodes.{early, part}
-use Rattle.t_core.specs.Nodes.{Part as NodePart}
+use Rattle.t_core.specs.Nodes.{part}
 use Rattle.t_core.specs.Whole.{is_lambda_at}
 use Rattle.t_forms.specs.Data.{Datum, Name}
 use Rattle.t_forms.specs.Names.{Scope}
@@ -19,7 +17,7 @@ use Rattle.expand_laws.proofs.Counting.{numbered_length}
 use Rattle.expand_laws.proofs.Gaining.{gains_node, with_vars}
 use Rattle.expand_laws.proofs.Made.{Stock}
 use Rattle.expand_laws.proofs.Placing.{Seat, seat, placed}
-use Rattle.expand_laws.proofs.Reached.{IsLambdaForm, IsProcedurePart}
+use Rattle.expand_laws.proofs.Reached.{IsProcedurePart}
 use Rattle.expand_laws.proofs.Segments.{AreLambdas, AreSeated, Choice}
 
 body_placed : (vars : List Var) (tail : Bool) (ks : List ℕ) → length ks ≡ 1 → part (first ks) vars tail ∷ [] ≡ placed (seat vars tail ∷ []) ks

@@ -1,6 +1,6 @@
 -- What is chosen for nodes that bind no variables.
-use Rattle.std.proofs.Common.{◌≡◌, ℕ, zero, suc, ◌+◌, ◌<◌, ◌≤◌, Bool, true, false, IsTrue, List, [], ◌∷◌, ◌++◌, map, length, get_or, slice_get, Option, Some, None, refl, sym, ap, subst, ◌∙◌, ◌⊎◌, inl, inr, arith}
-use Rattle.std.specs.Prelude.{All, Contains}
+use Rattle.std.proofs.Common.{◌≡◌, ℕ, zero, suc, ◌<◌, Bool, true, false, List, [], ◌∷◌, map, length, slice_get, Some, refl, ap, ◌∙◌, inl, inr, arith}
+use Rattle.std.specs.Prelude.{Contains}
 use Rattle.std.proofs.lemmas.Option.{slice_get_within, get_or_from_slice_get}
 use Rattle.t_base.specs.declared.basics.Var.{Var}
 use Rattle.t_base.specs.declared.builtins.Builtin.{Builtin}
@@ -11,16 +11,16 @@ use Rattle.t_core.specs.declared.forms.Core.TheVariants as Node
 use Rattle.t_core.specs.Nodes.{parts_of, early, part, block_parts}
 use Rattle.t_core.specs.Whole.{NamesAreThere, IsInPlace}
 use Rattle.t_core.specs.Whole.{IsShaped as IsNodeShaped}
-use Rattle.t_forms.specs.Data.{Datum, Name}
+use Rattle.t_forms.specs.Data.{Datum}
 use Rattle.t_forms.specs.Names.{Scope, Bound}
 use Rattle.t_rows.specs.Rows.{Shape, constant, local, global, builtin_value, op_value, lambda, if_, block, set_local, set_global, call, primitive, Part, plain}
 use Rattle.t_expand.specs.Meaning.{Fits}
-use Rattle.expand_laws.proofs.Constants.{ConstantMade, constant_made}
+use Rattle.expand_laws.proofs.Constants.{constant_made}
 use Rattle.expand_laws.proofs.Gaining.{Gains, gains_node, with_vars}
 use Rattle.expand_laws.proofs.Made.{Stock, HasStock, HasDefined, IsRight}
 use Rattle.expand_laws.proofs.Placing.{Seat, seat, placed}
-use Rattle.expand_laws.proofs.Reached.{IsPure, IsDefinedGlobal, IsUnitOp, IsKnownOp}
-use Rattle.expand_laws.proofs.Segments.{AreLambdas, AreSeated, Choice}
+use Rattle.expand_laws.proofs.Reached.{IsPure, IsDefinedGlobal, IsKnownOp}
+use Rattle.expand_laws.proofs.Segments.{AreSeated, Choice}
 
 -- the list's first item, what is behind it, and its last item and what is before that
 abbrev pub first : List ℕ → ℕ

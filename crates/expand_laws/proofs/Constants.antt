@@ -1,5 +1,5 @@
 -- Constants of quoted data.
-use Rattle.std.proofs.Common.{◌≡◌, ℕ, ℤ, pos, negsuc, zero, suc, ◌+◌, ◌<◌, ◌≤◌, ◌⊎◌, inl, inr, IsTrue, List, [], ◌∷◌, ◌++◌, map, length, slice_get, Some, refl, sym, ap, subst, ◌∙◌, append_assoc, arith}
+use Rattle.std.proofs.Common.{◌≡◌, ℕ, ℤ, pos, negsuc, zero, suc, ◌+◌, ◌<◌, ◌≤◌, ◌⊎◌, inl, inr, IsTrue, List, [], ◌∷◌, ◌++◌, length, slice_get, Some, refl, sym, ap, subst, ◌∙◌, append_assoc, arith}
 use Rattle.std.specs.Prelude.{All}
 use Rattle.std.specs.List.{flat_map}
 use Rattle.std.proofs.lemmas.Bool.Decides.{nat_tests}
@@ -15,18 +15,16 @@ use Rattle.t_prim.specs.Operands.{in_range}
 use Rattle.t_prim.specs.SharedParts.{IsConst, StandsBelow, HasLowerParts}
 use Rattle.t_core.specs.declared.forms.Core.{Core}
 use Rattle.t_core.specs.declared.forms.Core.TheVariants as Node
-use Rattle.t_core.specs.Nodes.{binders_of}
 use Rattle.t_core.specs.Whole.{pair_in, pair_of}
 use Rattle.core_check.specs.Sound.{string_in, string_of}
 use Rattle.t_reader.specs.Grammar.{fix, char, nil, truth, string, symbol}
 use Rattle.t_reader.specs.Tokens.{IsFixnum}
 use Rattle.t_forms.specs.Data.{Atom, given, variable, builtin, operation, listing, Datum, atom, cons}
 use Rattle.t_expand.specs.Meaning.{IsQuoted}
-use Rattle.t_expand.specs.Quoting.{Adds}
 use Rattle.t_expand.proofs.QuotedLemmas.{Adds_trans, slice_get-Adds}
 use Rattle.expand_laws.proofs.Counting.{times, times_none, times_append, times_flat, Once, once_none, once_one, once_both, once_counted}
 use Rattle.expand_laws.proofs.Gaining.{Gains, gains_none, gains_both, gains_as, stock_before, longer}
-use Rattle.expand_laws.proofs.Made.{IsRight, Stock, HasStock, numbers, strings_named, pairs_named}
+use Rattle.expand_laws.proofs.Made.{IsRight, Stock, HasStock, strings_named, pairs_named}
 use Rattle.expand_laws.proofs.Reached.{IsPure}
 
 fixnum_in_range : (z : ℤ) → IsFixnum z → IsTrue (in_range z)

@@ -1,5 +1,5 @@
 -- Each form on which the table ends and in which nothing is refused has nodes.
-use Rattle.std.proofs.Common.{◌≡◌, ℕ, suc, ◌+◌, Bool, true, false, List, [], ◌∷◌, ◌++◌, map, length, Some, refl, sym, ap, subst, ◌∙◌, arith}
+use Rattle.std.proofs.Common.{◌≡◌, ℕ, suc, ◌+◌, Bool, false, List, [], ◌∷◌, ◌++◌, length, refl, sym, subst, arith}
 use Rattle.std.specs.Prelude.{Contains}
 use Rattle.std.specs.List.{flat_map}
 use Rattle.std.proofs.lemmas.List.{length-append}
@@ -9,7 +9,7 @@ use Rattle.t_rows.specs.declared.refusal.Refusal.{Refusal}
 use Rattle.t_reader.specs.Grammar.{Value}
 use Rattle.t_forms.specs.Data.{Datum, Name}
 use Rattle.t_forms.specs.Names.{Scope, Bound, within}
-use Rattle.t_rows.specs.Rows.{stands_for, node, Shape, constant, local, global, builtin_value, op_value, lambda, if_, block, let_, labels, set_local, set_global, catch_, object, call, primitive, nothing, Part, plain, inside, row}
+use Rattle.t_rows.specs.Rows.{node, Shape, constant, local, global, builtin_value, op_value, lambda, if_, block, let_, labels, set_local, set_global, catch_, object, call, primitive, nothing, Part, row}
 use Rattle.t_expand.specs.Meaning.{top_scope}
 use Rattle.t_expand.specs.Refusals.{Refused, in_form, at_form, in_part}
 use Rattle.expand_laws.proofs.BinderChoices.{lambda_choice, catch_choice, let_choice, labels_choice}
@@ -21,9 +21,11 @@ use Rattle.expand_laws.proofs.Placing.{Seat, sits_all, is_tree}
 use Rattle.expand_laws.proofs.Reached.{HasBuiltinOps, IsRightShape, Comes, to_form, to_node, AllCome, no_parts, one_part, IsShaped}
 use Rattle.expand_laws.proofs.Segments.{AreSeated, Segment, Segments, no_segments, more_segments, Choice, node_segment, form_segment}
 
--- a row in which nothing is refused has a shape with the parts that belong to it
-abbrev pub RowsShaped : Type 0
-RowsShaped = (scope : Scope) (d : Datum) (shape : Shape) (parts : List Part) → HasBuiltinOps d → row scope d ≡ node shape [] parts → IsShaped scope shape parts
+-- a row in which nothing is refused has a shape with the parts that belong to it, where the unit defines these names
+abbrev pub RowsShaped : List Bound → Type 0
+RowsShaped defined =
+    (locals : List Name) (d : Datum) (shape : Shape) (parts : List Part) → HasBuiltinOps d
+    → row (record { locals = locals; defined = defined }) d ≡ node shape [] parts → IsShaped (record { locals = locals; defined = defined }) shape parts
 
 pub choice : (names : List (List ℕ)) (vars : List Var) (scope : Scope) (tail : Bool) (shape : Shape) (parts : List Part) (before : Stock) → length vars ≡ length scope.locals
     → IsRightShape (IsRight names) shape → IsShaped scope shape parts → Choice names vars scope tail shape parts before
@@ -71,33 +73,36 @@ both_count : {A B : Type 0} (xs us : List A) (ys vs : List B) → length xs ≡ 
 both_count xs us ys vs e f = omega (arith, length-append xs us, length-append ys vs)
 
 mutual
-  pub segment : RowsShaped → (right : Value → Type 0) (names : List (List ℕ)) → ((shape : Shape) → IsRightShape right shape → IsRightShape (IsRight names) shape) → (scope : Scope) (d : Datum) → Comes right scope d → ((r : Refusal) → Refused scope d r → ⊥) → (vars : List Var)
-      → length vars ≡ length scope.locals → (tail : Bool) (start : ℕ) (before : Stock) → Segment names vars scope d tail start before
-  segment rows right names same scope d (to_form _ _ e is h) none vars count tail start before =
-      form_segment names vars scope d e tail start before is (segment rows right names same scope e h (λ r i. none r (in_form scope d e r is i)) vars count tail start before)
-  segment rows right names same scope d (to_node _ _ shape [] parts is ops pure all) none vars count tail start before =
-      let c = choice names vars scope tail shape parts before count (same shape pure) (rows scope d shape parts ops is) in
+  pub segment : (right : Value → Type 0) (names : List (List ℕ)) → ((shape : Shape) → IsRightShape right shape → IsRightShape (IsRight names) shape) → (scope : Scope) (d : Datum)
+      → Comes right scope d → RowsShaped scope.defined → ((r : Refusal) → Refused scope d r → ⊥) → (vars : List Var) → length vars ≡ length scope.locals → (tail : Bool) (start : ℕ)
+      (before : Stock) → Segment names vars scope d tail start before
+  segment right names same scope d (to_form _ _ e is h) rows none vars count tail start before =
+      form_segment names vars scope d e tail start before is
+      (segment right names same scope e h rows (λ r i. none r (in_form scope d e r is i)) vars count tail start before)
+  segment right names same scope d (to_node _ _ shape [] parts is ops pure all) rows none vars count tail start before =
+      let c = choice names vars scope tail shape parts before count (same shape pure) (rows scope.locals d shape parts ops is) in
       node_segment names vars scope d tail start before shape parts is c
-      (segments rows right names same scope parts all (λ r p there i. none r (in_part scope d r shape [] parts p is there i)) vars count c.seats c.seated start c.after)
-  segment rows right names same scope d (to_node _ _ shape (r ∷ rs) parts is ops pure all) none vars count tail start before =
+      (segments right names same scope parts all rows (λ r p there i. none r (in_part scope d r shape [] parts p is there i)) vars count c.seats c.seated start c.after)
+  segment right names same scope d (to_node _ _ shape (r ∷ rs) parts is ops pure all) rows none vars count tail start before =
       absurd (none r (at_form scope d r shape (r ∷ rs) parts is (contains_first r rs)))
 
-  pub segments : RowsShaped → (right : Value → Type 0) (names : List (List ℕ)) → ((shape : Shape) → IsRightShape right shape → IsRightShape (IsRight names) shape) → (scope : Scope) (parts : List Part) → AllCome right scope parts
-      → ((r : Refusal) (p : Part) → Contains parts p → Refused (within scope p.binds) p.form r → ⊥) → (vars : List Var) → length vars ≡ length scope.locals → (seats : List Seat)
-      → AreSeated parts seats → (start : ℕ) (before : Stock) → Segments names vars scope parts seats start before
-  segments rows right names same scope parts (no_parts _) none vars count [] seated start before = no_segments names vars scope start before
-  segments rows right names same scope parts (no_parts _) none vars count (s ∷ seats) seated start before = absurd seated
-  segments rows right names same scope parts (one_part _ p ps h all) none vars count [] seated start before = absurd seated
-  segments rows right names same scope parts (one_part _ p ps h all) none vars count (s ∷ seats) seated start before =
-      let x = segment rows right names same (within scope p.binds) p.form h (λ r i. none r p (contains_first p ps) i) (s.binds ++ vars) (both_count p.binds scope.locals s.binds vars seated.0 (sym count)) s.tail start before in
+  pub segments : (right : Value → Type 0) (names : List (List ℕ)) → ((shape : Shape) → IsRightShape right shape → IsRightShape (IsRight names) shape) → (scope : Scope) (parts : List Part)
+      → AllCome right scope parts → RowsShaped scope.defined → ((r : Refusal) (p : Part) → Contains parts p → Refused (within scope p.binds) p.form r → ⊥) → (vars : List Var)
+      → length vars ≡ length scope.locals → (seats : List Seat) → AreSeated parts seats → (start : ℕ) (before : Stock) → Segments names vars scope parts seats start before
+  segments right names same scope parts (no_parts _) rows none vars count [] seated start before = no_segments names vars scope start before
+  segments right names same scope parts (no_parts _) rows none vars count (s ∷ seats) seated start before = absurd seated
+  segments right names same scope parts (one_part _ p ps h all) rows none vars count [] seated start before = absurd seated
+  segments right names same scope parts (one_part _ p ps h all) rows none vars count (s ∷ seats) seated start before =
+      let x = segment right names same (within scope p.binds) p.form h rows (λ r i. none r p (contains_first p ps) i) (s.binds ++ vars)
+      (both_count p.binds scope.locals s.binds vars seated.0 (sym count)) s.tail start before in
       more_segments names vars scope p s ps seats start before seated.0 x
-      (segments rows right names same scope ps all (λ r q there i. none r q (contains_more p q ps there) i) vars count seats seated.1 (start + length x.nodes) x.after)
+      (segments right names same scope ps all rows (λ r q there i. none r q (contains_more p q ps there) i) vars count seats seated.1 (start + length x.nodes) x.after)
 
 -- the nodes of a whole form
-pub form_made : (names : List (List ℕ)) (defined : List Bound) (d : Datum) (before : Stock) → RowsShaped → Comes (IsRight names) (top_scope defined) d
+pub form_made : (names : List (List ℕ)) (defined : List Bound) (d : Datum) (before : Stock) → RowsShaped defined → Comes (IsRight names) (top_scope defined) d
     → ((r : Refusal) → Refused (top_scope defined) d r → ⊥) → (after : Stock) × FormMade names defined d before after
 form_made names defined d before rows comes none =
-    let x = segment rows (IsRight names) names (λ shape h. h) (top_scope defined) d comes none [] refl false 0 before in (
+    let x = segment (IsRight names) names (λ shape h. h) (top_scope defined) d comes rows none [] refl false 0 before in (
       x.after,
       record {
         nodes = x.nodes;

@@ -1,5 +1,5 @@
 -- What nodes add to the stock of a unit: variables, strings and pairs.
-use Rattle.std.proofs.Common.{◌≡◌, ℕ, zero, suc, ◌+◌, ◌<◌, ◌≤◌, List, [], ◌∷◌, ◌++◌, map, length, refl, sym, ap, subst, ◌∙◌, append_assoc, arith}
+use Rattle.std.proofs.Common.{◌≡◌, ℕ, ◌+◌, ◌<◌, ◌≤◌, List, [], ◌∷◌, ◌++◌, length, sym, ap, subst, ◌∙◌, append_assoc, arith}
 use Rattle.std.specs.Prelude.{All}
 use Rattle.std.specs.List.{flat_map}
 use Rattle.std.proofs.lemmas.List.{append-nil, length-append}
@@ -13,9 +13,8 @@ use Rattle.t_core.specs.Nodes.{binders_of}
 use Rattle.t_core.specs.Whole.{pair_in, pair_of}
 use Rattle.core_check.specs.Sound.{string_in, string_of}
 use Rattle.t_expand.specs.Building.{numbered}
-use Rattle.t_expand.specs.Quoting.{Adds}
 use Rattle.t_expand.proofs.QuotedLemmas.{Adds_trans}
-use Rattle.expand_laws.proofs.Counting.{times, times_none, times_append, times_flat, times_mapped, Once, once_none, once_both, once_counted, once_numbered}
+use Rattle.expand_laws.proofs.Counting.{times, times_append, times_flat, times_mapped, Once, once_none, once_both, once_counted, once_numbered}
 use Rattle.expand_laws.proofs.Made.{Stock, HasStock, numbers, strings_named, pairs_named}
 
 -- how often a place is named, in two lists of nodes and pairs
