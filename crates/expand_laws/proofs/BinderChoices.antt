@@ -73,6 +73,7 @@ catch_choice names vars scope tail n d before =
 
 -- ---- a body behind other parts
 
+-- what is before the list's last item, and that item
 abbrev pub front : List ℕ → List ℕ
 front [] = []
 front (k ∷ []) = []

@@ -22,7 +22,7 @@ use Rattle.expand_laws.proofs.Placing.{Seat, seat, placed}
 use Rattle.expand_laws.proofs.Reached.{IsPure, IsDefinedGlobal, IsKnownOp}
 use Rattle.expand_laws.proofs.Segments.{AreSeated, Choice}
 
--- the list's first item, what is behind it, and its last item and what is before that
+-- the list's first item, and what is behind it
 abbrev pub first : List ℕ → ℕ
 first [] = 0
 first (k ∷ ks) = k

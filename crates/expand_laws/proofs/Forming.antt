@@ -72,6 +72,7 @@ contains_more x y xs h = (suc h.0, omega (arith, h.1), h.2)
 both_count : {A B : Type 0} (xs us : List A) (ys vs : List B) → length xs ≡ length ys → length us ≡ length vs → length (ys ++ vs) ≡ length (xs ++ us)
 both_count xs us ys vs e f = omega (arith, length-append xs us, length-append ys vs)
 
+-- the nodes of a form, and of the parts of a node
 mutual
   pub segment : (right : Value → Type 0) (names : List (List ℕ)) → ((shape : Shape) → IsRightShape right shape → IsRightShape (IsRight names) shape) → (scope : Scope) (d : Datum)
       → Comes right scope d → RowsShaped scope.defined → ((r : Refusal) → Refused scope d r → ⊥) → (vars : List Var) → length vars ≡ length scope.locals → (tail : Bool) (start : ℕ)
