@@ -1,0 +1,5 @@
+use Rattle.expand_laws.proofs.Standing.{counted_once}
+use Rattle.expand_laws.proofs.renaming.cores_are_renamed.Goals as goal
+
+pub returns : goal.returns
+returns c trees unit other spans others core also = ?
