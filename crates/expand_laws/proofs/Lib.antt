@@ -1,3 +1,4 @@
 pub mod Made
+pub mod Paired
 pub mod Reached
 pub mod Standing

@@ -1,4 +1,4 @@
-use Rattle.expand_laws.proofs.Standing.{counted_once}
+use Rattle.expand_laws.proofs.Paired.{one_together}
 use Rattle.expand_laws.proofs.renaming.cores_are_renamed.Goals as goal
 
 pub returns : goal.returns
