@@ -1,4 +1,5 @@
 pub mod Made
 pub mod Paired
 pub mod Reached
+pub mod SameNodes
 pub mod Standing
