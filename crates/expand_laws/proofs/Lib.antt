@@ -1,3 +1,4 @@
+pub mod Beside
 pub mod Made
 pub mod Paired
 pub mod Reached
