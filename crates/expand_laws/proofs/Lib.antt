@@ -1,4 +1,5 @@
 pub mod Beside
+pub mod Collecting
 pub mod Made
 pub mod Paired
 pub mod Reached
