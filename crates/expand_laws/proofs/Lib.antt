@@ -5,3 +5,4 @@ pub mod Paired
 pub mod Reached
 pub mod SameNodes
 pub mod Standing
+pub mod Walking
