@@ -53,6 +53,9 @@ Includes all pairs = (p : Var × Var) → Contains pairs p → Contains all p
 abbrev pub EachPair : (Var → Var → Type 0) → Renaming → Type 0
 EachPair R pairs = (p : Var × Var) → Contains pairs p → R p.0 p.1
 
+pub no_pairs : (R : Var → Var → Type 0) → EachPair R []
+no_pairs R p c = absurd (none_there p c)
+
 pub each_of_both : (R : Var → Var → Type 0) (xs ys : Renaming) → EachPair R xs → EachPair R ys → EachPair R (xs ++ ys)
 each_of_both R xs ys g h p c = ⊎_elim (λ a. g p a) (λ b. h p b) (Contains-append_cases xs ys p c)
 
@@ -63,7 +66,7 @@ pub record Collected (R : Var → Var → Type 0) (us ws : List Var) : Type 0 wh
   pub related : (all : Renaming) → Includes all pairs → AllZip (Renames all) us ws
 
 pub collect : (R : Var → Var → Type 0) (us ws : List Var) → AllZip R us ws → Collected R us ws
-collect R [] [] h = record { pairs = []; each = λ p c. absurd (none_there p c); related = λ all includes. tt }
+collect R [] [] h = record { pairs = []; each = no_pairs R; related = λ all includes. tt }
 collect R [] (w ∷ ws) h = absurd h
 collect R (u ∷ us) [] h = absurd h
 collect R (u ∷ us) (w ∷ ws) h =
@@ -94,7 +97,7 @@ PartsPaired form twin q r =
 
 module _ (form twin : Form) (ss ts : List Span) (shared other : Shared) (vars others : List Var) where
   pub none_walked : (rs : List Part) → AllZip (PartsPaired form twin) [] rs → AllWalked form twin ss ts shared other vars others [] rs
-  none_walked [] h = record { pairs = []; each = λ p c. absurd (none_there p c); same = λ all includes related. no_parts }
+  none_walked [] h = record { pairs = []; each = no_pairs (BoundIn form twin); same = λ all includes related. no_parts }
   none_walked (r ∷ rs) h = absurd h
 
   pub one_more : (q r : Part) (qs rs : List Part) → PartsPaired form twin q r

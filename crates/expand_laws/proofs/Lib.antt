@@ -1,5 +1,6 @@
 pub mod Beside
 pub mod Collecting
+pub mod FormWalks
 pub mod Made
 pub mod Paired
 pub mod Reached

@@ -23,7 +23,7 @@ flipped nodes others root top k j (at_roots kk jj p q) = at_roots jj kk q p
 flipped nodes others root top k j (at_parts kk jj i x y c d paired g h p q) =
     at_parts jj kk i y x d c (flipped nodes others root top kk jj paired) h g q p
 
-all_at : {X : Type 0} (P : X → Type 0) (xs : List X) (k : ℕ) (x : X) → slice_get xs k ≡ Some x → All P xs → P x
+pub all_at : {X : Type 0} (P : X → Type 0) (xs : List X) (k : ℕ) (x : X) → slice_get xs k ≡ Some x → All P xs → P x
 all_at P xs k x h all = subst P (get_or_from_slice_get xs k x x h) (all k x (slice_get_within xs k x h))
 
 -- a place that a node names is there
