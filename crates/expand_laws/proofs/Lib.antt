@@ -4,6 +4,7 @@ pub mod FormWalks
 pub mod Made
 pub mod Paired
 pub mod Reached
+pub mod SameDefinitions
 pub mod SameNodes
 pub mod Standing
 pub mod Walking
