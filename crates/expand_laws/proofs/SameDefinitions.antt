@@ -1,5 +1,5 @@
 -- Globals and operations of two units whose forms are alike: the same kinds and defaults.
-use Rattle.std.proofs.Common.{◌≡◌, ℕ, zero, suc, ◌+◌, ◌<◌, ◌≤◌, ◌==◌, Bool, true, false, cond, List, [], ◌∷◌, length, map, slice_get, All, count_by, Option, Some, None, IsTrue, IsSomeAnd, ◌⊎◌, inl, inr, ⊎_elim, refl, sym, ap, subst, ◌∙◌, arith}
+use Rattle.std.proofs.Common.{◌≡◌, ℕ, zero, suc, ◌+◌, ◌<◌, ◌≤◌, Bool, true, false, cond, List, [], ◌∷◌, length, map, slice_get, count_by, Option, Some, None, IsSomeAnd, inl, inr, ⊎_elim, refl, sym, ap, subst, ◌∙◌, arith}
 use Rattle.std.specs.List.{AllZip}
 use Rattle.std.specs.Option.{option_map, option_map_or}
 use Rattle.std.proofs.lemmas.Bool.{cases_lt}
@@ -21,7 +21,7 @@ use Rattle.t_core.specs.declared.forms.FormKind.{FormKind}
 use Rattle.t_core.specs.declared.forms.FormKind.TheVariants.{Define, Lset, Operation, Plain}
 use Rattle.t_core.specs.declared.forms.UnitCore.{UnitCore}
 use Rattle.t_core.specs.Nodes.{is_lambda}
-use Rattle.t_core.specs.Whole.{is_lambda_at, DefinesAs, IsDefault, IsDefinition, defines_global, defines_op, HasDefinitions, IsWhole}
+use Rattle.t_core.specs.Whole.{is_lambda_at, DefinesAs, IsDefault, IsDefinition, defines_global, defines_op, IsWhole}
 use Rattle.expand_laws.specs.Renaming.{Renaming, IsSameNode, Alike, alike, RootsAlike, FormsAlike, IsSameGlobal, IsSameOp, nodes_of}
 use Rattle.expand_laws.proofs.Collecting.{zip_each}
 use Rattle.expand_laws.proofs.Paired.{all_at}

@@ -1,21 +1,21 @@
 -- Nodes of two forms that are what one datum stands for: they are alike, and their variables are bound together.
-use Rattle.std.proofs.Common.{◌≡◌, ℕ, Bool, List, [], ◌∷◌, ◌++◌, length, map, slice_get, Some, refl, sym, subst, ◌∙◌}
+use Rattle.std.proofs.Common.{◌≡◌, ℕ, Bool, List, [], ◌∷◌, ◌++◌, length, slice_get, Some, sym, subst, ◌∙◌}
 use Rattle.std.specs.List.{AllZip}
 use Rattle.t_base.specs.declared.basics.Span.{Span}
 use Rattle.t_base.specs.declared.basics.Var.{Var}
 use Rattle.t_base.specs.declared.shared_parts.Shared.{Shared}
 use Rattle.t_core.specs.declared.forms.Core.{Core}
 use Rattle.t_core.specs.declared.forms.Form.{Form}
-use Rattle.t_core.specs.Nodes.{Part, parts_of, places_of, binders_of}
+use Rattle.t_core.specs.Nodes.{Part, parts_of, binders_of}
 use Rattle.t_forms.specs.Data.{Datum, span_of}
 use Rattle.t_forms.specs.Names.{Scope, within}
 use Rattle.t_rows.specs.declared.refusal.Refusal.{Refusal}
 use Rattle.t_rows.specs.Rows.{stands_for, node, Shape, Part as RowPart, row}
 use Rattle.t_rows.proofs.ZipLemmas.{zip_weaker}
 use Rattle.t_expand.specs.Meaning.{Fits, Nodes, Means, as_form, as_node, AllMean, no_parts, one_part}
-use Rattle.expand_laws.specs.Renaming.{Renaming, Renames, Alike, AllAlike, alike, IsSameNode, nodes_of}
+use Rattle.expand_laws.specs.Renaming.{Renames, alike, nodes_of}
 use Rattle.expand_laws.proofs.Beside.{Beside, PartsBeside, SameCount, parts_beside, place_of_part}
-use Rattle.expand_laws.proofs.Collecting.{Includes, Walked, AllWalked, PartsPaired, none_walked, one_more, zip_got, zip_each}
+use Rattle.expand_laws.proofs.Collecting.{Walked, AllWalked, PartsPaired, none_walked, one_more, zip_got, zip_each}
 use Rattle.expand_laws.proofs.Paired.{Paired, at_parts, BoundIn}
 use Rattle.expand_laws.proofs.SameNodes.{same_node}
 
