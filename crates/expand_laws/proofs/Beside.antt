@@ -1,9 +1,9 @@
 -- The parts of two nodes of one kind, one beside the other: their places, their tail places, and the variables around them.
-use Rattle.std.proofs.Common.{◌≡◌, ℕ, suc, ◌+◌, Bool, true, false, List, [], ◌∷◌, ◌++◌, length, map, slice_get, Some, refl, sym, ap, ◌∙◌, arith}
+use Rattle.std.proofs.Common.{◌≡◌, ℕ, zero, suc, ◌+◌, Bool, true, false, List, [], ◌∷◌, ◌++◌, length, map, slice_get, Some, refl, sym, ap, ◌∙◌, arith}
 use Rattle.std.specs.List.{flat_map, AllZip}
 use Rattle.std.specs.Option.{option_map}
 use Rattle.std.proofs.lemmas.List.{map-append}
-use Rattle.std.proofs.lemmas.Option.{slice_get-map}
+use Rattle.std.proofs.lemmas.Option.{slice_get-map, same_Some}
 use Rattle.t_base.specs.declared.basics.Var.{Var}
 use Rattle.t_base.specs.declared.shared_parts.Shared.{Shared}
 use Rattle.t_core.specs.declared.forms.Core.{Core}
@@ -38,6 +38,15 @@ places_are _ tail = refl
 pub place_of_part : (c : Core) (tail : Bool) (i : ℕ) (q : Part) → slice_get (parts_of c tail) i ≡ Some q → slice_get (places_of c) i ≡ Some q.at
 place_of_part c tail i q h =
     ap (λ l. slice_get l i) (sym (places_are c tail)) ∙ slice_get-map (λ (p : Part). p.at) (parts_of c tail) i ∙ ap (option_map (λ (p : Part). p.at)) h
+
+got_map : {X A : Type 0} (f : X → A) (xs : List X) (i : ℕ) (a : A) → slice_get (map f xs) i ≡ Some a → (x : X) × (slice_get xs i ≡ Some x) × (f x ≡ a)
+got_map f [] i a h = cc
+got_map f (x ∷ xs) zero a h = (x, refl, same_Some (f x) a h)
+got_map f (x ∷ xs) (suc i) a h = got_map f xs i a h
+
+-- and the part at a place
+pub part_of_place : (c : Core) (tail : Bool) (i x : ℕ) → slice_get (places_of c) i ≡ Some x → (q : Part) × (slice_get (parts_of c tail) i ≡ Some q) × (q.at ≡ x)
+part_of_place c tail i x h = got_map (λ (p : Part). p.at) (parts_of c tail) i x (ap (λ l. slice_get l i) (places_are c tail) ∙ h)
 
 -- ---- items at one place of two lists
 

@@ -1,9 +1,11 @@
 pub mod Beside
 pub mod Collecting
+pub mod Counting
 pub mod FormWalks
 pub mod Made
 pub mod Paired
 pub mod Reached
+pub mod Reaching
 pub mod SameDefinitions
 pub mod SameNodes
 pub mod Standing

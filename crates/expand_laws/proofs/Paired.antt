@@ -18,7 +18,7 @@ pub data Paired (nodes others : List Core) (root top : ℕ) : ℕ → ℕ → Ty
   at_parts : (k j i x y : ℕ) (c d : Core) → Paired nodes others root top k j → slice_get nodes k ≡ Some c → slice_get others j ≡ Some d
       → slice_get (places_of c) i ≡ Some x → slice_get (places_of d) i ≡ Some y → Paired nodes others root top x y
 
-flipped : (nodes others : List Core) (root top k j : ℕ) → Paired nodes others root top k j → Paired others nodes top root j k
+pub flipped : (nodes others : List Core) (root top k j : ℕ) → Paired nodes others root top k j → Paired others nodes top root j k
 flipped nodes others root top k j (at_roots kk jj p q) = at_roots jj kk q p
 flipped nodes others root top k j (at_parts kk jj i x y c d paired g h p q) =
     at_parts jj kk i y x d c (flipped nodes others root top kk jj paired) h g q p
@@ -33,7 +33,7 @@ part_there nodes root k i x c tree h p =
     let there : k < length nodes = slice_get_within nodes k c h in
     omega arith
 
-named : (nodes : List Core) (root x : ℕ) → IsTree nodes root → x < length nodes → (b : Bool) → (x == root) ≡ b
+pub named : (nodes : List Core) (root x : ℕ) → IsTree nodes root → x < length nodes → (b : Bool) → (x == root) ≡ b
     → count_by (λ place. place == x) (flat_map places_of nodes) ≡ (if b then 0 else 1)
 named nodes root x tree there b is = tree.named_once x there ∙ ap (λ c. if c then 0 else 1) is
 

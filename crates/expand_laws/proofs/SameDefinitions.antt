@@ -24,6 +24,7 @@ use Rattle.t_core.specs.Nodes.{is_lambda}
 use Rattle.t_core.specs.Whole.{is_lambda_at, DefinesAs, IsDefault, IsDefinition, defines_global, defines_op, IsWhole}
 use Rattle.expand_laws.specs.Renaming.{Renaming, IsSameNode, Alike, alike, RootsAlike, FormsAlike, IsSameGlobal, IsSameOp, nodes_of}
 use Rattle.expand_laws.proofs.Collecting.{zip_each}
+use Rattle.expand_laws.proofs.Counting.{IsThere, counted_there}
 use Rattle.expand_laws.proofs.Paired.{all_at}
 
 -- ---- roots
@@ -88,28 +89,6 @@ form_beside renaming shared other (f ∷ forms) (s ∷ sss) (g ∷ twins) (t ∷
     (g, refl, subst (λ x. SameForms x g) (same_Some f form is) (record { kinds = h.0; roots = same_roots renaming shared other f g s t h.1 }))
 form_beside renaming shared other (f ∷ forms) (s ∷ sss) (g ∷ twins) (t ∷ tss) (suc i) form h is =
     form_beside renaming shared other forms sss twins tss i form h.2 is
-
--- ---- counts
-
--- what passes the test stands in the list
-record IsThere {X : Type 0} (p : X → Bool) (xs : List X) : Type 0 where
-  i : ℕ
-  x : X
-  found : slice_get xs i ≡ Some x
-  passes : p x ≡ true
-
-there_first : {X : Type 0} (p : X → Bool) (y : X) (xs : List X) (b : Bool) → p y ≡ b → count_by p (y ∷ xs) ≡ 1 → (count_by p xs ≡ 1 → IsThere p xs) → IsThere p (y ∷ xs)
-there_first p y xs true e h rest = record { i = 0; x = y; found = refl; passes = e }
-there_first p y xs false e h rest =
-    let f : 1 ≡ 0 + count_by p xs = sym h ∙ sum_by-cons (λ z. cond (p z) 1 0) y xs ∙ rw e refl in
-    let more : count_by p xs ≡ 1 = omega arith in
-    let r : IsThere p xs = rest more in
-    record { i = suc r.i; x = r.x; found = r.found; passes = r.passes }
-
--- what is counted once is there
-counted_there : {X : Type 0} (p : X → Bool) (xs : List X) → count_by p xs ≡ 1 → IsThere p xs
-counted_there p [] h = cc
-counted_there p (y ∷ xs) h = there_first p y xs (p y) refl h (λ more. counted_there p xs more)
 
 -- ---- globals
 

@@ -3,6 +3,7 @@ use Rattle.std.specs.Prelude.{map}
 use Rattle.t_forms.specs.Data.{datum_of}
 use Rattle.t_expand.specs.Units.{tops_of, definitions_of}
 use Rattle.expand_laws.proofs.FormWalks.{FormsWalked, forms_walked, one_to_one}
+use Rattle.expand_laws.proofs.Reaching.{left_has}
 use Rattle.expand_laws.proofs.SameDefinitions.{globals_same, ops_same}
 use Rattle.expand_laws.proofs.renaming.cores_are_renamed.Goals as goal
 
