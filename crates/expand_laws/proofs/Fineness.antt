@@ -12,7 +12,8 @@ use Rattle.t_forms.specs.Data.{Atom, given, variable, builtin, operation, listin
 use Rattle.t_rows.specs.Rows.{Definition, define, lset, operation_form, lambda_form, define_procedure, define_of, lset_of, default_of, define_operation_with, define_operation_of, definition_of_word}
 use Rattle.expand_laws.proofs.Made.{IsRight}
 use Rattle.expand_laws.proofs.OneTop.{IsNamed, IsDefaultForm, IsFineDefault, IsFineDefinition}
-use Rattle.expand_laws.proofs.Premises.{size, IsFormOf, IsProcedure}
+use Rattle.expand_laws.proofs.Premises.{IsFormOf, IsProcedure}
+use Rattle.expand_laws.proofs.Sizes.{size}
 use Rattle.expand_laws.proofs.Reached.{IsPure}
 use Rattle.expand_laws.proofs.TopsMade.{default_size, value_size}
 

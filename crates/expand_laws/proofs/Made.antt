@@ -5,7 +5,6 @@ use Rattle.std.specs.Option.{option_map}
 use Rattle.t_base.specs.declared.basics.Span.{Span}
 use Rattle.t_base.specs.declared.basics.Var.{Var}
 use Rattle.t_base.specs.declared.shared_parts.Const.{Const}
-use Rattle.t_base.specs.declared.shared_parts.Const.TheVariants as Constant
 use Rattle.t_base.specs.declared.shared_parts.GlobalKind.TheVariants.{Variable}
 use Rattle.t_base.specs.declared.shared_parts.Shared.{Shared}
 use Rattle.t_prim.specs.SharedParts.{IsConst, HasLowerParts}
@@ -17,9 +16,9 @@ use Rattle.core_check.specs.Sound.{string_in, string_of}
 use Rattle.t_reader.specs.Grammar.{Value, fix, char, nil, truth, string, symbol}
 use Rattle.t_reader.specs.Tokens.{IsFixnum}
 use Rattle.t_forms.specs.Data.{Datum, Name}
-use Rattle.t_forms.specs.Names.{Bound, a_global, an_op}
+use Rattle.t_forms.specs.Names.{Bound}
 use Rattle.t_rows.specs.Rows.{node, lambda, inside, row}
-use Rattle.t_expand.specs.Meaning.{Nodes, Means, top_scope}
+use Rattle.t_expand.specs.Meaning.{Means, top_scope}
 use Rattle.t_expand.specs.Quoting.{Adds}
 use Rattle.expand_laws.proofs.Reached.{IsDefinedGlobal, IsUnitOp}
 

@@ -25,7 +25,8 @@ use Rattle.t_expand.specs.Refusals.{Refused, at_form, RefusedTop, RefusedDefinit
 use Rattle.t_expand.specs.Units.{Top, defining, broken, expression}
 use Rattle.expand_laws.proofs.Made.{Stock, FormMade, numbers, strings_named, pairs_named}
 use Rattle.expand_laws.proofs.Once.{IsOnce, once_none, once_of}
-use Rattle.expand_laws.proofs.Premises.{size, IsFormOf, IsProcedure, Makes, MakesForms}
+use Rattle.expand_laws.proofs.Premises.{IsFormOf, IsProcedure, Makes, MakesForms}
+use Rattle.expand_laws.proofs.Sizes.{size}
 use Rattle.expand_laws.proofs.TopsMade.{TopMade, TopStands, IsFilled, top_size}
 
 -- ---- what is known of a form at top level

@@ -4,17 +4,13 @@ use Rattle.std.specs.List.{AllByRecursion}
 use Rattle.t_base.specs.declared.basics.Span.{Span}
 use Rattle.t_rows.specs.declared.refusal.Refusal.{Refusal}
 use Rattle.t_rows.specs.Rows.{lambda_form}
-use Rattle.t_forms.specs.Data.{Datum, atom, cons}
+use Rattle.t_forms.specs.Data.{Datum}
 use Rattle.t_forms.specs.Names.{Bound}
 use Rattle.t_expand.specs.Meaning.{top_scope}
 use Rattle.t_expand.specs.Refusals.{Refused}
 use Rattle.expand_laws.proofs.Made.{IsRight, Stock, FormMade}
 use Rattle.expand_laws.proofs.Reached.{IsPure}
-
--- how many atoms and pairs it has
-abbrev pub size : Datum → ℕ
-size (atom s a) = 1
-size (cons s head tail) = 1 + size head + size tail
+use Rattle.expand_laws.proofs.Sizes.{size}
 
 -- the LAMBDA that a definition makes of its parameters and its body
 pub record IsProcedure (names : List (List ℕ)) (d : Datum) : Type 0 where

@@ -1,9 +1,9 @@
 -- What is known of the forms that the table reaches from a form of a text.
-use Rattle.std.specs.Prelude.{◌≡◌, ◌⊎◌, ℕ, ◌<◌, Bool, true, pos, List, [], ◌∷◌, ◌++◌, map, length, Contains, Option, Some, None}
+use Rattle.std.specs.Prelude.{◌≡◌, ◌⊎◌, ℕ, ◌<◌, Bool, true, pos, List, [], ◌∷◌, ◌++◌, map, length, Contains}
 use Rattle.std.specs.List.{AllByRecursion}
 use Rattle.t_prim.specs.Table.{arity_of}
-use Rattle.t_reader.specs.Grammar.{Value, fix, char, nil, truth, string, symbol}
-use Rattle.t_forms.specs.Data.{Atom, given, variable, builtin, operation, listing, Datum, atom, cons, Name}
+use Rattle.t_reader.specs.Grammar.{Value, fix, nil, truth}
+use Rattle.t_forms.specs.Data.{given, operation, Datum, atom, cons, Name}
 use Rattle.t_forms.specs.Names.{Scope, Bound, within, a_global, an_op}
 use Rattle.t_rows.specs.declared.refusal.Refusal.{Refusal}
 use Rattle.t_rows.specs.Rows.{stands_for, node, Shape, constant, local, global, builtin_value, op_value, lambda, if_, block, let_, labels, set_local, set_global, catch_, object, call, primitive, nothing, Part, plain, inside, row}

@@ -8,9 +8,9 @@ use Rattle.t_expand.specs.Units.{Top, defining, broken, expression, is_defining,
 use Rattle.expand_laws.proofs.Fineness.{ArePure, items_size, size_some, items_pure, definition_fine}
 use Rattle.expand_laws.proofs.Made.{IsRight}
 use Rattle.expand_laws.proofs.OneTop.{IsFineTop}
-use Rattle.expand_laws.proofs.Premises.{size}
+use Rattle.expand_laws.proofs.Sizes.{size}
 use Rattle.expand_laws.proofs.Reached.{IsPure}
-use Rattle.expand_laws.proofs.Sizes.{data_size}
+use Rattle.expand_laws.proofs.DataSizes.{data_size}
 use Rattle.expand_laws.proofs.Tables.{AreFine}
 use Rattle.expand_laws.proofs.TopsMade.{top_size, tops_size}
 

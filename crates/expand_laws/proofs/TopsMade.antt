@@ -19,7 +19,7 @@ use Rattle.t_expand.specs.Meaning.{Nodes, RootMeans, ValueMeans, IsKind, FormsMe
 use Rattle.t_expand.specs.Units.{Top, defining, broken, expression, meaning_of}
 use Rattle.expand_laws.proofs.Made.{Stock, HasStock, HasDefined, numbers, strings_named, pairs_named}
 use Rattle.expand_laws.proofs.Once.{IsOnce}
-use Rattle.expand_laws.proofs.Premises.{size}
+use Rattle.expand_laws.proofs.Sizes.{size}
 
 -- ---- one form
 

@@ -36,7 +36,7 @@ use Rattle.expand_laws.proofs.Numbering.{all_clean, all_new, all_numbered, all_k
 use Rattle.expand_laws.proofs.Once.{distinct_of}
 use Rattle.expand_laws.proofs.Premises.{MakesForms}
 use Rattle.expand_laws.proofs.Ready.{IsReady, nothing_made, builtin_at, ops_behind, shared_of, unit_of, has_stock, has_defined, is_split}
-use Rattle.expand_laws.proofs.Sizes.{trees_pure, sizes_are}
+use Rattle.expand_laws.proofs.DataSizes.{trees_pure, sizes_are}
 use Rattle.expand_laws.proofs.Tables.{tabled, globals_named, ops_named, globals_there, ops_there}
 use Rattle.expand_laws.proofs.TopsFine.{all_fine}
 use Rattle.expand_laws.proofs.TopsMade.{unit_named}

@@ -14,7 +14,7 @@ use Rattle.t_reader.specs.Unit.{IsValue, node, Holds, HoldTrees, children, named
 use Rattle.t_forms.specs.Data.{Datum, datum_of}
 use Rattle.t_forms.proofs.Loads.{holds_within}
 use Rattle.expand_laws.proofs.Once.{times}
-use Rattle.expand_laws.proofs.Premises.{size}
+use Rattle.expand_laws.proofs.Sizes.{size}
 
 -- ---- sums
 

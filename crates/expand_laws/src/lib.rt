@@ -11,6 +11,8 @@ ghost use Rattle.t_reader.specs.declared.unit.Unit.{Unit as TextUnit};
 ghost use Rattle.t_reader.specs.Grammar.{Tree};
 ghost use Rattle.t_reader.specs.Unit.{HoldTrees, IsWhole};
 
+pub mod renaming;
+
 /// The table of forms ends on every form of a text, in every scope.
 pub fn table_ends()
     ensures { (scope : Scope) (t : Tree) → Ends scope (datum_of t) }
