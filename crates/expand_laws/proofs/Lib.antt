@@ -12,6 +12,7 @@ pub mod Choices
 pub mod Collecting
 pub mod CondRows
 pub mod Constants
+pub mod Costs
 pub mod CountedOnce
 pub mod Counting
 pub mod DataSizes
@@ -33,6 +34,7 @@ pub mod ListedRefusals
 pub mod LocativeRows
 pub mod Made
 pub mod MethodShapes
+pub mod Most
 pub mod NameShapes
 pub mod Named
 pub mod NodeShapes
