@@ -12,6 +12,8 @@ pub mod Choices
 pub mod Collecting
 pub mod CondRows
 pub mod Constants
+pub mod CostBlocks
+pub mod CostCalls
 pub mod Costs
 pub mod CountedOnce
 pub mod Counting
