@@ -8,7 +8,7 @@ use Rattle.t_objects.specs.declared.words.Word.TheVariants as word
 use Rattle.t_forms.specs.Data.{Atom, given, variable, builtin, operation, listing, Datum, atom, items_of, listed, a_nil, a_true, made, name_of, binders_of, names}
 use Rattle.t_forms.specs.Names.{Meaning, a_local, a_global, an_op, the_builtin, the_operation, the_truth, the_listing, none, Scope, meaning}
 use Rattle.t_rows.specs.Rows.{node, lambda, catch_, inside, body, word_, twice, lambda_form, lambda_row, if_row, block_row, catch_row, and_row, name_row, atom_row}
-use Rattle.expand_laws.proofs.Costs.{Within, AllWithin, RowWithin, by_row, looser, word_form, formed, sum_looser, more_sum, plain_parts}
+use Rattle.expand_laws.proofs.Costs.{Within, AllWithin, RowWithin, by_row, looser, word_form, formed, plain_parts}
 
 -- ---- atoms
 
@@ -79,7 +79,6 @@ and_within n s [] h = looser 2 (3 + n + 0) (a_true s) (omega arith) (truth_withi
 and_within n s (a ∷ []) h = let l = h.4 in looser h.0 (3 + n + 3 * 1) a (omega (arith, l)) h.2
 and_within n s (a ∷ b ∷ others) h =
     let l = h.4 in
-    let count = 3 + h.1 + 3 * length (b ∷ others) in
     let rest : Within (3 + h.1 + 3 * length (b ∷ others)) (listed s (word_ s (codes "and") ∷ b ∷ others)) =
     word_form (3 + h.1 + 3 * length (b ∷ others)) s (codes "and") word.And (b ∷ others) refl (λ scope. and_within h.1 s (b ∷ others) h.3) in
     looser (1 + h.0 + (3 + h.1 + 3 * length (b ∷ others)) + 2) (3 + n + 3 * length (a ∷ b ∷ others)) _ (omega (arith, l))

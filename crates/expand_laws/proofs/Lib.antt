@@ -14,6 +14,7 @@ pub mod CondRows
 pub mod Constants
 pub mod CostBlocks
 pub mod CostCalls
+pub mod CostLets
 pub mod Costs
 pub mod CountedOnce
 pub mod Counting
