@@ -12,6 +12,7 @@ pub mod Choices
 pub mod Collecting
 pub mod CondRows
 pub mod Constants
+pub mod CostBinds
 pub mod CostBlocks
 pub mod CostCalls
 pub mod CostLets
