@@ -15,6 +15,7 @@ pub mod Constants
 pub mod CostBinds
 pub mod CostBlocks
 pub mod CostCalls
+pub mod CostCases
 pub mod CostLets
 pub mod Costs
 pub mod CountedOnce
