@@ -17,6 +17,10 @@ pub mod CostBlocks
 pub mod CostCalls
 pub mod CostCases
 pub mod CostLets
+pub mod CostLoops
+pub mod CostPlaces
+pub mod CostSets
+pub mod CostTable
 pub mod Costs
 pub mod CountedOnce
 pub mod Counting

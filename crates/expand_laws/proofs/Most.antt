@@ -1,7 +1,7 @@
 -- How much a form of a size costs at most, and that it costs more than its parts.
 use Rattle.std.proofs.Common.{◌≡◌, ℕ, zero, suc, ◌+◌, ◌-◌, ◌*◌, ◌<◌, ◌≤◌, ◌^◌, List, [], ◌∷◌, length, Option, Some, refl, sym, ap, subst, ◌∙◌, arith}
 use Rattle.t_forms.specs.Data.{Datum, items_of}
-use Rattle.expand_laws.proofs.Sizes.{size, total, items_size}
+use Rattle.expand_laws.proofs.Sizes.{size, total, size_some, items_size}
 
 pub most : ℕ → ℕ
 most n = 32 * (n * n)
@@ -66,3 +66,30 @@ worth_items d ds e =
 -- with so much more than the items
 pub worth_list : (ds : List Datum) (k c : ℕ) → total ds + k ≤ c → worth ds + 32 * length ds + 32 * k ≤ most c
 worth_list ds k c le = let w = worth_total ds in let s = most_beside (total ds) k c le in omega (arith, w, s)
+
+-- ---- beside a list as long as the items, of as many small ones
+
+record Excess (ds : List Datum) : Type 0 where
+  more : ℕ
+  is : total ds ≡ 2 * length ds + more
+  squares : worth ds ≤ 32 * (length ds + 2 * more + more * more)
+
+one_excess : (k n e t w : ℕ) → 0 < k → t ≡ 2 * n + e → w ≤ 32 * (n + 2 * e + e * e)
+    → (m : ℕ) × (1 + k + t ≡ 2 * suc n + m) × (most k + w ≤ 32 * (suc n + 2 * m + m * m))
+unfolding most
+one_excess zero n e t w some is le = absurd (omega (arith, some))
+one_excess (suc j) n e t w some is le = (e + j, omega (arith, is), omega (arith, le))
+
+excess : (ds : List Datum) → Excess ds
+excess [] = record { more = 0; is = refl; squares = omega arith }
+excess (d ∷ ds) =
+    let r = excess ds in
+    let x = one_excess (size d) (length ds) r.more (total ds) (worth ds) (size_some d) r.is r.squares in
+    record { more = x.0; is = x.1; squares = x.2 }
+
+beside_squares : (n e t w : ℕ) → t ≡ 2 * n + e → w ≤ 32 * (n + 2 * e + e * e) → w + most (3 + 2 * n) + 20 * n + 43 ≤ most (6 + t)
+unfolding most
+beside_squares n e t w is le = rw is (omega (arith, le))
+
+pub worth_beside : (ds : List Datum) → worth ds + most (3 + 2 * length ds) + 20 * length ds + 43 ≤ most (6 + total ds)
+worth_beside ds = let x = excess ds in beside_squares (length ds) x.more (total ds) (worth ds) x.is x.squares
