@@ -1,8 +1,10 @@
 pub mod Beside
 pub mod Collecting
 pub mod Counting
+pub mod FormsBeside
 pub mod FormWalks
 pub mod Made
+pub mod OneToOne
 pub mod Paired
 pub mod Reached
 pub mod Reaching
