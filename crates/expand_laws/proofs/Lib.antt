@@ -11,4 +11,5 @@ pub mod Reaching
 pub mod SameDefinitions
 pub mod SameNodes
 pub mod Standing
+pub mod TreeSums
 pub mod Walking

@@ -4,6 +4,7 @@ use Rattle.t_forms.specs.Data.{datum_of}
 use Rattle.t_expand.specs.Units.{tops_of, definitions_of}
 use Rattle.expand_laws.proofs.FormWalks.{FormsWalked, forms_walked}
 use Rattle.expand_laws.proofs.OneToOne.{one_to_one}
+use Rattle.expand_laws.proofs.TreeSums.{total_of_root}
 use Rattle.expand_laws.proofs.SameDefinitions.{globals_same, ops_same}
 use Rattle.expand_laws.proofs.renaming.cores_are_renamed.Goals as goal
 
