@@ -106,21 +106,3 @@ forms_walked defined shared other (f ∷ forms) (s ∷ sss) (top ∷ tops) (g �
 forms_walked defined shared other (f ∷ forms) (s ∷ sss) (top ∷ tops) (g ∷ twins) (t ∷ tss) m n =
     one_form_more f g forms twins s t sss tss shared other (form_walked defined shared other f g s t top m.0 n.0)
     (forms_walked defined shared other forms sss tops twins tss m.1 n.1)
-
--- ---- one to one
-
-trees_of : (unit : UnitCore) → IsWhole unit → (f : ℕ) (form : Form) → slice_get unit.forms.items f ≡ Some form → 0 < length form.nodes.items
-    → IsTree form.nodes.items form.root
-trees_of unit whole f form is some =
-    let places : HasPlaces unit.shared form = all_at (HasPlaces unit.shared) unit.forms.items f form is whole.places in places.tree some
-
--- variables of two whole units that are bound together
-pub one_to_one : (unit other : UnitCore) (pairs : Renaming) → IsWhole unit → IsWhole other → EachPair (BoundTogether unit.forms.items other.forms.items) pairs → IsOneToOne pairs
-one_to_one unit other pairs whole also each =
-    λ p q cp cq. (
-      λ e. one_together unit.forms.items other.forms.items p.0 p.1 q.1 (trees_of unit whole) whole.scopes.bound_once (each p cp)
-      (subst (λ v. BoundTogether unit.forms.items other.forms.items v q.1) (sym e) (each q cq)),
-      λ e. one_together other.forms.items unit.forms.items p.1 p.0 q.0 (trees_of other also) also.scopes.bound_once
-      (flipped_together unit.forms.items other.forms.items p.0 p.1 (each p cp))
-      (subst (λ v. BoundTogether other.forms.items unit.forms.items v q.0) (sym e) (flipped_together unit.forms.items other.forms.items q.0 q.1 (each q cq))),
-    )

@@ -16,6 +16,7 @@ pub mod Counting
 pub mod DoRows
 pub mod Fine
 pub mod FirstOrNone
+pub mod FormsBeside
 pub mod FormWalks
 pub mod Forming
 pub mod FormsMade
@@ -30,6 +31,7 @@ pub mod MethodShapes
 pub mod NameShapes
 pub mod NodeShapes
 pub mod ObjectChoice
+pub mod OneToOne
 pub mod Paired
 pub mod Placing
 pub mod PureForms
@@ -45,4 +47,5 @@ pub mod ShapesOfRows
 pub mod Sizes
 pub mod Standing
 pub mod TableEnds
+pub mod TreeSums
 pub mod Walking

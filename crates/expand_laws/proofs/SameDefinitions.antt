@@ -25,6 +25,7 @@ use Rattle.t_core.specs.Whole.{is_lambda_at, DefinesAs, IsDefault, IsDefinition,
 use Rattle.expand_laws.specs.Renaming.{Renaming, IsSameNode, Alike, alike, RootsAlike, FormsAlike, IsSameGlobal, IsSameOp, nodes_of}
 use Rattle.expand_laws.proofs.Collecting.{zip_each}
 use Rattle.expand_laws.proofs.CountedOnce.{IsThere, counted_there}
+use Rattle.expand_laws.proofs.FormsBeside.{FormBeside, form_beside}
 use Rattle.expand_laws.proofs.Paired.{all_at}
 
 -- ---- roots
@@ -73,22 +74,6 @@ same_roots renaming shared other form twin ss ts (inl none) = record {
   all = λ some. absurd (none_here twin.nodes.items none.1 some);
 }
 same_roots renaming shared other form twin ss ts (inr a) = roots_from_nodes renaming shared other form twin ss ts false form.root twin.root a
-
--- two forms at one place
-record SameForms (form twin : Form) : Type 0 where
-  kinds : form.kind ≡ twin.kind
-  roots : SameRoots form.nodes.items twin.nodes.items form.root twin.root
-
-form_beside : (renaming : Renaming) (shared other : Shared) (forms : List Form) (sss : List (List Span)) (twins : List Form) (tss : List (List Span)) (i : ℕ) (form : Form)
-    → FormsAlike renaming shared other forms sss twins tss → slice_get forms i ≡ Some form → (twin : Form) × (slice_get twins i ≡ Some twin) × SameForms form twin
-form_beside renaming shared other [] sss twins tss i form h is = cc
-form_beside renaming shared other (f ∷ forms) [] twins tss i form h is = absurd h
-form_beside renaming shared other (f ∷ forms) (s ∷ sss) [] tss i form h is = absurd h
-form_beside renaming shared other (f ∷ forms) (s ∷ sss) (g ∷ twins) [] i form h is = absurd h
-form_beside renaming shared other (f ∷ forms) (s ∷ sss) (g ∷ twins) (t ∷ tss) zero form h is =
-    (g, refl, subst (λ x. SameForms x g) (same_Some f form is) (record { kinds = h.0; roots = same_roots renaming shared other f g s t h.1 }))
-form_beside renaming shared other (f ∷ forms) (s ∷ sss) (g ∷ twins) (t ∷ tss) (suc i) form h is =
-    form_beside renaming shared other forms sss twins tss i form h.2 is
 
 -- ---- globals
 
@@ -166,14 +151,16 @@ module _ (unit other : UnitCore) (whole : IsWhole unit) (also : IsWhole other) (
         (whole.definitions.globals_once g (slice_get_within unit.shared.globals.items g a p))
       in
       let form : Form = there.x in
-      let beside : (twin : Form) × (slice_get other.forms.items there.i ≡ Some twin) × SameForms form twin =
+      let beside : FormBeside renaming unit.shared other.shared other.forms.items there.i form =
         form_beside renaming unit.shared other.shared unit.forms.items spans other.forms.items others there.i form forms there.found
       in
-      let twin : Form = beside.0 in
-      let same : SameForms form twin = beside.2 in
+      let twin : Form = beside.twin in
+      let same : SameRoots form.nodes.items twin.nodes.items form.root twin.root =
+        same_roots renaming unit.shared other.shared form twin beside.ss beside.ts beside.roots
+      in
       global_kind unit.shared other.shared g form.kind form.nodes.items twin.nodes.items form.root twin.root a b p q there.passes
       (definition_at unit whole there.i form there.found)
-      (subst (λ k. IsDefinition other.shared k twin.nodes.items twin.root) (sym same.kinds) (definition_at other also there.i twin beside.1)) same.roots.lambdas
+      (subst (λ k. IsDefinition other.shared k twin.nodes.items twin.root) (sym beside.kinds) (definition_at other also there.i twin beside.found)) same.lambdas
 
   builtin_default : (at : UnitCore) → IsWhole at → (o : ℕ) (a : OpInfo) → o < builtin_ops → slice_get at.shared.ops.items o ≡ Some a → a.default ≡ false
   builtin_default at w o a below is =
@@ -186,14 +173,16 @@ module _ (unit other : UnitCore) (whole : IsWhole unit) (also : IsWhole other) (
         (whole.definitions.ops_once o above (slice_get_within unit.shared.ops.items o a p))
       in
       let form : Form = there.x in
-      let beside : (twin : Form) × (slice_get other.forms.items there.i ≡ Some twin) × SameForms form twin =
+      let beside : FormBeside renaming unit.shared other.shared other.forms.items there.i form =
         form_beside renaming unit.shared other.shared unit.forms.items spans other.forms.items others there.i form forms there.found
       in
-      let twin : Form = beside.0 in
-      let same : SameForms form twin = beside.2 in
+      let twin : Form = beside.twin in
+      let same : SameRoots form.nodes.items twin.nodes.items form.root twin.root =
+        same_roots renaming unit.shared other.shared form twin beside.ss beside.ts beside.roots
+      in
       op_default unit.shared other.shared o form.kind form.nodes.items twin.nodes.items form.root twin.root a b p q there.passes
       (definition_at unit whole there.i form there.found)
-      (subst (λ k. IsDefinition other.shared k twin.nodes.items twin.root) (sym same.kinds) (definition_at other also there.i twin beside.1)) same.roots
+      (subst (λ k. IsDefinition other.shared k twin.nodes.items twin.root) (sym beside.kinds) (definition_at other also there.i twin beside.found)) same
 
   pub same_op : (o : ℕ) (a b : OpInfo) → slice_get unit.shared.ops.items o ≡ Some a → slice_get other.shared.ops.items o ≡ Some b → a.default ≡ b.default
   same_op o a b p q =

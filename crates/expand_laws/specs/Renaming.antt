@@ -15,6 +15,7 @@ use Rattle.t_core.specs.declared.forms.Core.TheVariants as Node
 use Rattle.t_core.specs.declared.forms.Form.{Form}
 use Rattle.t_core.specs.declared.forms.UnitCore.{UnitCore}
 use Rattle.t_core.specs.Nodes.{Part, parts_of}
+use Rattle.t_core.specs.Whole.{binders}
 use Rattle.t_expand.specs.Meaning.{Nodes}
 
 -- ---- renamings
@@ -26,10 +27,13 @@ Renaming = List (Var × Var)
 abbrev pub Renames : Renaming → Var → Var → Type 0
 Renames renaming v w = Contains renaming (v, w)
 
--- one variable has one other, and different variables have different others
-abbrev pub IsOneToOne : Renaming → Type 0
-IsOneToOne renaming =
-    (p q : Var × Var) → Contains renaming p → Contains renaming q → (p.0 ≡ q.0 → p.1 ≡ q.1) × (p.1 ≡ q.1 → p.0 ≡ q.0)
+-- it relates these variables to those, one to one
+pub record IsOneToOne (renaming : Renaming) (vars others : List Var) : Type 0 where
+  pub within : (v w : Var) → Renames renaming v w → Contains vars v × Contains others w
+  pub each : (v : Var) → Contains vars v → (w : Var) × Renames renaming v w
+  pub every : (w : Var) → Contains others w → (v : Var) × Renames renaming v w
+  pub one : (v w x : Var) → Renames renaming v w → Renames renaming v x → w ≡ x
+  pub apart : (v w x : Var) → Renames renaming v x → Renames renaming w x → v ≡ w
 
 -- ---- constants
 
@@ -108,7 +112,7 @@ IsSameOp shared other o p = (o.default ≡ p.default) × (slice_get shared.names
 -- one unit is the other up to a one-to-one renaming of its variables
 pub record IsRenamed (unit : UnitCore) (spans : List (List Span)) (other : UnitCore) (others : List (List Span)) : Type 0 where
   pub renaming : Renaming
-  pub one_to_one : IsOneToOne renaming
+  pub one_to_one : IsOneToOne renaming (binders unit) (binders other)
   pub forms : FormsAlike renaming unit.shared other.shared unit.forms.items spans other.forms.items others
   pub globals : AllZip (IsSameGlobal unit.shared other.shared) unit.shared.globals.items other.shared.globals.items
   pub ops : AllZip (IsSameOp unit.shared other.shared) unit.shared.ops.items other.shared.ops.items
