@@ -1,3 +1,4 @@
+pub mod Around
 pub mod Beside
 pub mod Collecting
 pub mod Counting
@@ -8,8 +9,10 @@ pub mod OneToOne
 pub mod Paired
 pub mod Reached
 pub mod Reaching
+pub mod Roots
 pub mod SameDefinitions
 pub mod SameNodes
+pub mod SameSizes
 pub mod Standing
 pub mod TreeSums
 pub mod Walking
