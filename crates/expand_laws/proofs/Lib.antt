@@ -1,4 +1,5 @@
 pub mod Always
+pub mod Around
 pub mod Atoms
 pub mod Below
 pub mod Beside
@@ -16,9 +17,9 @@ pub mod Counting
 pub mod DoRows
 pub mod Fine
 pub mod FirstOrNone
-pub mod FormsBeside
 pub mod FormWalks
 pub mod Forming
+pub mod FormsBeside
 pub mod FormsMade
 pub mod Gaining
 pub mod LabelsShapes
@@ -38,9 +39,11 @@ pub mod PureForms
 pub mod Reached
 pub mod Reaching
 pub mod RefusalsOf
+pub mod Roots
 pub mod RowShapes
 pub mod SameDefinitions
 pub mod SameNodes
+pub mod SameSizes
 pub mod Segments
 pub mod SetRows
 pub mod ShapesOfRows

@@ -116,3 +116,4 @@ pub record IsRenamed (unit : UnitCore) (spans : List (List Span)) (other : UnitC
   pub forms : FormsAlike renaming unit.shared other.shared unit.forms.items spans other.forms.items others
   pub globals : AllZip (IsSameGlobal unit.shared other.shared) unit.shared.globals.items other.shared.globals.items
   pub ops : AllZip (IsSameOp unit.shared other.shared) unit.shared.ops.items other.shared.ops.items
+  pub size : unit.shared.size ≡ other.shared.size
