@@ -1,7 +1,7 @@
 pub mod Around
 pub mod Beside
 pub mod Collecting
-pub mod Counting
+pub mod CountedOnce
 pub mod FormsBeside
 pub mod FormWalks
 pub mod Made
