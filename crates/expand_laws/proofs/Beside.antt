@@ -146,10 +146,10 @@ methods_beside (m ∷ ms) (n ∷ ns) h =
       (
         refl,
         zip_weaker (Beside m.params n.params) (Beside (m.params ++ more) (n.params ++ others)) (before_all m.params n.params more others) m.params n.params
-        (itself m.params n.params h.0),
+            (itself m.params n.params h.0),
       ),
       zip_weaker (PartsBeside more others) (PartsBeside (m.params ++ more) (n.params ++ others)) (shifted m.params n.params more others h.0) (map method_part ms) (map method_part ns)
-      (methods_beside ms ns h.1),
+          (methods_beside ms ns h.1),
     )
 
 -- of nodes of one kind

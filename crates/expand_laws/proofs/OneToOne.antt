@@ -1,24 +1,20 @@
 -- The variables of two whole units that are alike are related one to one.
-use Rattle.std.proofs.Common.{◌≡◌, ◌≢◌, ◌⊎◌, ℕ, zero, suc, ◌<◌, Bool, true, false, List, [], ◌∷◌, ◌++◌, length, map, get_or, slice_get, All, Contains, Some, inl, inr, refl, sym, ap, subst, ◌∙◌, arith}
-use Rattle.std.specs.List.{flat_map, AllZip}
+use Rattle.std.proofs.Common.{◌≡◌, ℕ, zero, suc, ◌<◌, Bool, List, [], ◌∷◌, length, slice_get, Contains, Some, inl, inr, sym, ap, subst, ◌∙◌, arith}
+use Rattle.std.specs.List.{AllZip}
 use Rattle.std.proofs.lemmas.Option.{slice_get_within, get_or_from_slice_get, slice_get-get_or, same_Some}
 use Rattle.t_base.specs.declared.basics.Span.{Span}
 use Rattle.t_base.specs.declared.basics.Var.{Var}
 use Rattle.t_base.specs.declared.shared_parts.Shared.{Shared}
 use Rattle.t_core.specs.declared.forms.Core.{Core}
-use Rattle.t_core.specs.declared.forms.Core.TheVariants as Node
 use Rattle.t_core.specs.declared.forms.Form.{Form}
-use Rattle.t_core.specs.declared.forms.Method.{Method}
 use Rattle.t_core.specs.declared.forms.UnitCore.{UnitCore}
-use Rattle.t_core.specs.Nodes.{Part, part, early, parts_of, binders_of}
+use Rattle.t_core.specs.Nodes.{parts_of, binders_of}
 use Rattle.t_core.specs.Whole.{IsTree, HasPlaces, IsWhole, binders}
-use Rattle.t_rows.proofs.ZipLemmas.{zip_append}
-use Rattle.t_expand.specs.Meaning.{Nodes}
-use Rattle.expand_laws.specs.Renaming.{Renaming, Renames, IsOneToOne, IsSameNode, Alike, AllAlike, no_parts, one_part, RootsAlike, FormsAlike, nodes_of}
+use Rattle.expand_laws.specs.Renaming.{Renaming, Renames, IsOneToOne, Alike, RootsAlike, FormsAlike, nodes_of}
 use Rattle.expand_laws.proofs.Around.{around, bound_alike}
 use Rattle.expand_laws.proofs.Collecting.{EachPair}
 use Rattle.expand_laws.proofs.FormsBeside.{FormBeside, form_beside, FormBefore, form_before}
-use Rattle.expand_laws.proofs.Paired.{BoundIn, BoundTogether, Paired, all_at, bound_in, flipped, flipped_together, one_together}
+use Rattle.expand_laws.proofs.Paired.{BoundTogether, Paired, all_at, bound_in, flipped, flipped_together, one_together}
 use Rattle.expand_laws.proofs.Reaching.{StandsIn, piece_of, reached, alike_where_paired, NodesAlike, nodes_alike, right_has, left_has}
 use Rattle.expand_laws.proofs.Standing.{somewhere}
 
@@ -54,13 +50,13 @@ module _ (renaming : Renaming) (shared other : Shared) (form twin : Form) (ss ts
   each_in v s tree (inr roots) =
       let below : s.k < length form.nodes.items = slice_get_within form.nodes.items s.k s.x s.piece in
       let there : (j : ℕ) × Paired form.nodes.items twin.nodes.items form.root twin.root s.k j =
-        reached form.nodes.items twin.nodes.items form.root twin.root (tree (omega arith)) (right_has renaming shared other form twin ss ts roots) s.k below
+      reached form.nodes.items twin.nodes.items form.root twin.root (tree (omega arith)) (right_has renaming shared other form twin ss ts roots) s.k below
       in
       let a : (tail : Bool) × Alike renaming shared other (nodes_of form ss) (nodes_of twin ts) tail s.k there.0 =
-        alike_where_paired renaming shared other form twin ss ts roots s.k there.0 there.1
+      alike_where_paired renaming shared other form twin ss ts roots s.k there.0 there.1
       in
       let are : NodesAlike renaming shared other (nodes_of form ss) (nodes_of twin ts) a.0 s.k there.0 =
-        nodes_alike renaming shared other (nodes_of form ss) (nodes_of twin ts) a.0 s.k there.0 a.1
+      nodes_alike renaming shared other (nodes_of form ss) (nodes_of twin ts) a.0 s.k there.0 a.1
       in
       let same : are.c ≡ s.x = same_Some are.c s.x (sym are.node_is ∙ s.piece) in
       zip_beside (Renames renaming) (binders_of are.c) (binders_of are.d) s.i v (related_at a.0 s.k there.0 are)
@@ -72,14 +68,14 @@ module _ (renaming : Renaming) (shared other : Shared) (form twin : Form) (ss ts
   every_in w s tree (inr roots) =
       let below : s.k < length twin.nodes.items = slice_get_within twin.nodes.items s.k s.x s.piece in
       let there : (j : ℕ) × Paired twin.nodes.items form.nodes.items twin.root form.root s.k j =
-        reached twin.nodes.items form.nodes.items twin.root form.root (tree (omega arith)) (left_has renaming shared other form twin ss ts roots) s.k below
+      reached twin.nodes.items form.nodes.items twin.root form.root (tree (omega arith)) (left_has renaming shared other form twin ss ts roots) s.k below
       in
       let a : (tail : Bool) × Alike renaming shared other (nodes_of form ss) (nodes_of twin ts) tail there.0 s.k =
-        alike_where_paired renaming shared other form twin ss ts roots there.0 s.k
-        (flipped twin.nodes.items form.nodes.items twin.root form.root s.k there.0 there.1)
+      alike_where_paired renaming shared other form twin ss ts roots there.0 s.k
+      (flipped twin.nodes.items form.nodes.items twin.root form.root s.k there.0 there.1)
       in
       let are : NodesAlike renaming shared other (nodes_of form ss) (nodes_of twin ts) a.0 there.0 s.k =
-        nodes_alike renaming shared other (nodes_of form ss) (nodes_of twin ts) a.0 there.0 s.k a.1
+      nodes_alike renaming shared other (nodes_of form ss) (nodes_of twin ts) a.0 there.0 s.k a.1
       in
       let same : are.d ≡ s.x = same_Some are.d s.x (sym are.other_is ∙ s.piece) in
       zip_before (Renames renaming) (binders_of are.c) (binders_of are.d) s.i w (related_at a.0 there.0 s.k are)
@@ -129,7 +125,7 @@ module _ (unit other : UnitCore) (renaming : Renaming) (spans others : List (Lis
       let outer : StandsIn bound_in unit.forms.items v = piece_of bound_in unit.forms.items c.0 v (got (binders unit) v c) in
       let inner : StandsIn binders_of outer.x.nodes.items v = piece_of binders_of outer.x.nodes.items outer.i v outer.found in
       let beside : FormBeside renaming unit.shared other.shared other.forms.items outer.k outer.x =
-        form_beside renaming unit.shared other.shared unit.forms.items spans other.forms.items others outer.k outer.x forms outer.piece
+      form_beside renaming unit.shared other.shared unit.forms.items spans other.forms.items others outer.k outer.x forms outer.piece
       in
       each_in renaming unit.shared other.shared outer.x beside.twin beside.ss beside.ts v inner (trees_of unit whole outer.k outer.x outer.piece) beside.roots
 
@@ -138,7 +134,7 @@ module _ (unit other : UnitCore) (renaming : Renaming) (spans others : List (Lis
       let outer : StandsIn bound_in other.forms.items w = piece_of bound_in other.forms.items c.0 w (got (binders other) w c) in
       let inner : StandsIn binders_of outer.x.nodes.items w = piece_of binders_of outer.x.nodes.items outer.i w outer.found in
       let before : FormBefore renaming unit.shared other.shared unit.forms.items outer.k outer.x =
-        form_before renaming unit.shared other.shared unit.forms.items spans other.forms.items others outer.k outer.x forms outer.piece
+      form_before renaming unit.shared other.shared unit.forms.items spans other.forms.items others outer.k outer.x forms outer.piece
       in
       every_in renaming unit.shared other.shared before.form outer.x before.ss before.ts w inner (trees_of other also outer.k outer.x outer.piece) before.roots
 
@@ -148,8 +144,8 @@ module _ (unit other : UnitCore) (renaming : Renaming) (spans others : List (Lis
     each = each_one;
     every = every_one;
     one = λ v w x g h.
-      one_together unit.forms.items other.forms.items v w x (trees_of unit whole) whole.scopes.bound_once (bound v w g) (bound v x h);
+        one_together unit.forms.items other.forms.items v w x (trees_of unit whole) whole.scopes.bound_once (bound v w g) (bound v x h);
     apart = λ v w x g h.
-      one_together other.forms.items unit.forms.items x v w (trees_of other also) also.scopes.bound_once
-      (flipped_together unit.forms.items other.forms.items v x (bound v x g)) (flipped_together unit.forms.items other.forms.items w x (bound w x h));
+        one_together other.forms.items unit.forms.items x v w (trees_of other also) also.scopes.bound_once
+        (flipped_together unit.forms.items other.forms.items v x (bound v x g)) (flipped_together unit.forms.items other.forms.items w x (bound w x h));
   }

@@ -1,13 +1,11 @@
 -- Globals and operations of two units whose forms are alike: the same kinds and defaults.
-use Rattle.std.proofs.Common.{◌≡◌, ℕ, zero, suc, ◌+◌, ◌<◌, ◌≤◌, Bool, true, false, cond, List, [], ◌∷◌, length, map, slice_get, count_by, Option, Some, None, IsSomeAnd, inl, inr, ⊎_elim, refl, sym, ap, subst, ◌∙◌, arith}
+use Rattle.std.proofs.Common.{◌≡◌, ℕ, ◌<◌, ◌≤◌, Bool, true, false, List, [], ◌∷◌, map, slice_get, Option, Some, None, IsSomeAnd, ⊎_elim, refl, sym, ap, subst, ◌∙◌}
 use Rattle.std.specs.List.{AllZip}
-use Rattle.std.specs.Option.{option_map, option_map_or}
+use Rattle.std.specs.Option.{option_map}
 use Rattle.std.proofs.lemmas.Bool.{cases_lt}
 use Rattle.std.proofs.lemmas.Bool.Decides.{Decides-eqb}
-use Rattle.std.proofs.lemmas.List.Sums.{sum_by-cons}
 use Rattle.std.proofs.lemmas.Option.{slice_get_within, same_Some}
 use Rattle.t_base.specs.declared.basics.Span.{Span}
-use Rattle.t_base.specs.declared.basics.Var.{Var}
 use Rattle.t_base.specs.declared.shared_parts.Global1.{Global1}
 use Rattle.t_base.specs.declared.shared_parts.GlobalKind.{GlobalKind}
 use Rattle.t_base.specs.declared.shared_parts.GlobalKind.TheVariants.{Proc, Value, Variable}
@@ -15,14 +13,12 @@ use Rattle.t_base.specs.declared.shared_parts.OpInfo.{OpInfo}
 use Rattle.t_base.specs.declared.shared_parts.Shared.{Shared}
 use Rattle.t_prim.specs.SharedParts.{builtin_ops}
 use Rattle.t_core.specs.declared.forms.Core.{Core}
-use Rattle.t_core.specs.declared.forms.Core.TheVariants as Node
 use Rattle.t_core.specs.declared.forms.Form.{Form}
 use Rattle.t_core.specs.declared.forms.FormKind.{FormKind}
 use Rattle.t_core.specs.declared.forms.FormKind.TheVariants.{Define, Lset, Operation, Plain}
 use Rattle.t_core.specs.declared.forms.UnitCore.{UnitCore}
-use Rattle.t_core.specs.Nodes.{is_lambda}
 use Rattle.t_core.specs.Whole.{is_lambda_at, DefinesAs, IsDefault, IsDefinition, defines_global, defines_op, IsWhole}
-use Rattle.expand_laws.specs.Renaming.{Renaming, IsSameNode, Alike, alike, RootsAlike, FormsAlike, IsSameGlobal, IsSameOp, nodes_of}
+use Rattle.expand_laws.specs.Renaming.{Renaming, FormsAlike, IsSameGlobal, IsSameOp}
 use Rattle.expand_laws.proofs.Collecting.{zip_each}
 use Rattle.expand_laws.proofs.CountedOnce.{IsThere, counted_there}
 use Rattle.expand_laws.proofs.FormsBeside.{FormBeside, form_beside}
@@ -101,16 +97,16 @@ module _ (unit other : UnitCore) (whole : IsWhole unit) (also : IsWhole other) (
   pub same_global : (g : ℕ) (a b : Global1) → slice_get unit.shared.globals.items g ≡ Some a → slice_get other.shared.globals.items g ≡ Some b → a.kind ≡ b.kind
   same_global g a b p q =
       let there : IsThere (λ (form : Form). defines_global g form.kind) unit.forms.items =
-        counted_there (λ (form : Form). defines_global g form.kind) unit.forms.items
-        (whole.definitions.globals_once g (slice_get_within unit.shared.globals.items g a p))
+      counted_there (λ (form : Form). defines_global g form.kind) unit.forms.items
+      (whole.definitions.globals_once g (slice_get_within unit.shared.globals.items g a p))
       in
       let form : Form = there.x in
       let beside : FormBeside renaming unit.shared other.shared other.forms.items there.i form =
-        form_beside renaming unit.shared other.shared unit.forms.items spans other.forms.items others there.i form forms there.found
+      form_beside renaming unit.shared other.shared unit.forms.items spans other.forms.items others there.i form forms there.found
       in
       let twin : Form = beside.twin in
       let same : SameRoots form.nodes.items twin.nodes.items form.root twin.root =
-        same_roots renaming unit.shared other.shared form twin beside.ss beside.ts beside.roots
+      same_roots renaming unit.shared other.shared form twin beside.ss beside.ts beside.roots
       in
       global_kind unit.shared other.shared g form.kind form.nodes.items twin.nodes.items form.root twin.root a b p q there.passes
       (definition_at unit whole there.i form there.found)
@@ -123,16 +119,16 @@ module _ (unit other : UnitCore) (whole : IsWhole unit) (also : IsWhole other) (
   unit_op : (o : ℕ) (a b : OpInfo) → slice_get unit.shared.ops.items o ≡ Some a → slice_get other.shared.ops.items o ≡ Some b → builtin_ops ≤ o → a.default ≡ b.default
   unit_op o a b p q above =
       let there : IsThere (λ (form : Form). defines_op o form.kind) unit.forms.items =
-        counted_there (λ (form : Form). defines_op o form.kind) unit.forms.items
-        (whole.definitions.ops_once o above (slice_get_within unit.shared.ops.items o a p))
+      counted_there (λ (form : Form). defines_op o form.kind) unit.forms.items
+      (whole.definitions.ops_once o above (slice_get_within unit.shared.ops.items o a p))
       in
       let form : Form = there.x in
       let beside : FormBeside renaming unit.shared other.shared other.forms.items there.i form =
-        form_beside renaming unit.shared other.shared unit.forms.items spans other.forms.items others there.i form forms there.found
+      form_beside renaming unit.shared other.shared unit.forms.items spans other.forms.items others there.i form forms there.found
       in
       let twin : Form = beside.twin in
       let same : SameRoots form.nodes.items twin.nodes.items form.root twin.root =
-        same_roots renaming unit.shared other.shared form twin beside.ss beside.ts beside.roots
+      same_roots renaming unit.shared other.shared form twin beside.ss beside.ts beside.roots
       in
       op_default unit.shared other.shared o form.kind form.nodes.items twin.nodes.items form.root twin.root a b p q there.passes
       (definition_at unit whole there.i form there.found)

@@ -1,11 +1,10 @@
 -- Units that are alike are of one size.
-use Rattle.std.proofs.Common.{◌≡◌, ◌⊎◌, ℕ, zero, suc, ◌+◌, ◌<◌, Bool, true, false, List, [], ◌∷◌, length, map, max, fold, slice_get, All, Option, Some, None, inl, inr, refl, sym, ap, subst, ◌∙◌, arith}
+use Rattle.std.proofs.Common.{◌≡◌, ℕ, ◌+◌, ◌<◌, Bool, false, List, [], ◌∷◌, length, map, max, fold, slice_get, All, Some, inl, inr, refl, sym, ap, ◌∙◌, arith}
 use Rattle.std.specs.List.{AllZip, sum_by}
 use Rattle.std.proofs.lemmas.List.Elements.{length_all_zip, All-head, All-tail}
 use Rattle.std.proofs.lemmas.List.Sums.{sum_by-cons}
 use Rattle.std.proofs.lemmas.Option.{slice_get_within}
 use Rattle.t_base.specs.declared.basics.Span.{Span}
-use Rattle.t_base.specs.declared.basics.Var.{Var}
 use Rattle.t_base.specs.declared.shared_parts.Const.{Const}
 use Rattle.t_base.specs.declared.shared_parts.Const.TheVariants as Constant
 use Rattle.t_base.specs.declared.shared_parts.Shared.{Shared}
@@ -17,12 +16,10 @@ use Rattle.t_core.specs.declared.forms.FormKind.{FormKind}
 use Rattle.t_core.specs.declared.forms.FormKind.TheVariants.{Define, Lset, Operation, Plain}
 use Rattle.t_core.specs.declared.forms.Method.{Method}
 use Rattle.t_core.specs.declared.forms.UnitCore.{UnitCore}
-use Rattle.t_core.specs.Nodes.{Part, part, early, parts_of, places_of, binders_of}
+use Rattle.t_core.specs.Nodes.{Part, parts_of, places_of, binders_of}
 use Rattle.t_core.specs.Counts.{datum_nodes, method_nodes, node_count, definition_count, form_count}
-use Rattle.t_core.specs.Limits.{greatest}
 use Rattle.t_core.specs.Whole.{IsTree, HasPlaces, IsWhole}
 use Rattle.t_core.proofs.DatumLemmas.{datum_atom, datum_pair}
-use Rattle.t_expand.specs.Meaning.{Nodes}
 use Rattle.expand_laws.specs.Renaming.{Renaming, Renames, IsSameConst, fix, char, nil, truth, symbol, string, pair, IsSameNode, Alike, AllAlike, alike, no_parts, one_part, RootsAlike, FormsAlike, nodes_of}
 use Rattle.expand_laws.proofs.Around.{Around, around, bound_alike, method_part}
 use Rattle.expand_laws.proofs.Beside.{places_are}
@@ -97,7 +94,7 @@ module _ (renaming : Renaming) (shared other : Shared) (lower : HasLowerParts sh
         → sum_by left_total (map (λ p. p.at) (parts_of c tail)) ≡ sum_by right_total (map (λ p. p.at) (parts_of d tail)) → left_total k ≡ right_total j
     node_total tail k j c d g h same parts =
         let these : sum_by left_total (places_of c) ≡ sum_by right_total (places_of d) =
-          ap (λ l. sum_by left_total l) (sym (places_are c tail)) ∙ parts ∙ ap (λ l. sum_by right_total l) (places_are d tail)
+        ap (λ l. sum_by left_total l) (sym (places_are c tail)) ∙ parts ∙ ap (λ l. sum_by right_total l) (places_are d tail)
         in
         total_is left form.nodes.items form.root tree k c g ∙ ap (λ n. n + sum_by left_total (places_of c)) same ∙ ap (λ n. right d + n) these
         ∙ sym (total_is right twin.nodes.items twin.root trees j d h)
@@ -161,7 +158,7 @@ module _ (renaming : Renaming) (shared other : Shared) (lower : HasLowerParts sh
       ap (λ n. fold (λ m x. max m (form_count shared.pairs.items x)) (max most n) forms)
       (form_same f g s t (All-head (HasPlaces shared) f forms places) (All-head (HasPlaces other) g twins others) h.0 h.1)
       ∙ greatest_same (max most (form_count other.pairs.items g)) forms sss twins tss h.2 (All-tail (HasPlaces shared) f forms places)
-        (All-tail (HasPlaces other) g twins others)
+      (All-tail (HasPlaces other) g twins others)
   greatest_same most _ _ _ _ h places others = absurd h
 
 pub same_size : (unit other : UnitCore) (renaming : Renaming) (spans others : List (List Span)) → IsWhole unit → IsWhole other

@@ -1,5 +1,5 @@
 -- The sum over the nodes of a tree is the sum over what its root is made of, since each node is part of one other at most.
-use Rattle.std.proofs.Common.{◌≡◌, ℕ, zero, suc, ◌+◌, ◌*◌, ◌<◌, ◌≤◌, ◌==◌, Bool, true, false, cond, List, [], ◌∷◌, ◌++◌, length, slice_get, All, count_by, Option, Some, None, refl, sym, ap, ◌∙◌, subst, arith}
+use Rattle.std.proofs.Common.{◌≡◌, ℕ, zero, suc, ◌+◌, ◌*◌, ◌<◌, ◌≤◌, ◌==◌, Bool, true, false, cond, List, [], ◌∷◌, ◌++◌, length, slice_get, count_by, Option, Some, None, refl, sym, ap, ◌∙◌, subst, arith}
 use Rattle.std.specs.List.{flat_map, sum_by, AllByRecursion}
 use Rattle.std.proofs.lemmas.Bool.{eq-eqb, ne_eqb, eqb-true, eqb-false}
 use Rattle.std.proofs.lemmas.List.Sums.{sum_by-cons, sum_by-append}
@@ -80,8 +80,8 @@ one_more : (w : ℕ → ℕ) (q : ℕ) (qs : List ℕ) → IsMore (λ k. count q
 one_more w q qs = record {
   here = times_more (count (q ∷ qs) q) (count qs q) (w q) (count_cons q qs q ∙ ap (λ (b : Bool). cond b 1 0 + count qs q) (eq-eqb q q refl));
   elsewhere = λ k e. times_same (count (q ∷ qs) k) (count qs k) (w k) (
-    let a : count (q ∷ qs) k ≡ 0 + count qs k = count_cons q qs k ∙ ap (λ (b : Bool). cond b 1 0 + count qs k) e in omega (arith, a)
-  );
+      let a : count (q ∷ qs) k ≡ 0 + count qs k = count_cons q qs k ∙ ap (λ (b : Bool). cond b 1 0 + count qs k) e in omega (arith, a)
+      );
 }
 
 -- the sum over the places, each as often as it stands there
@@ -131,8 +131,8 @@ module _ (weight : Core → ℕ) (nodes : List Core) (root : ℕ) (tree : IsTree
   sizes_same n m k low high before (Some c) e =
       ap (λ s. weight c + s)
       (sum_same (size_at weight nodes n) (size_at weight nodes m) (places_of c)
-       (each_weaker (λ place. place < k) (λ p. size_at weight nodes n p ≡ size_at weight nodes m p) (places_of c)
-        (λ p below. before p (omega (arith, below, low)) (omega (arith, below, high))) (places_below k c e)))
+      (each_weaker (λ place. place < k) (λ p. size_at weight nodes n p ≡ size_at weight nodes m p) (places_of c)
+      (λ p below. before p (omega (arith, below, low)) (omega (arith, below, high))) (places_below k c e)))
 
   -- more depth than the place changes nothing
   stable : (n m k : ℕ) → k < n → k < m → size_at weight nodes n k ≡ size_at weight nodes m k
@@ -152,7 +152,7 @@ module _ (weight : Core → ℕ) (nodes : List Core) (root : ℕ) (tree : IsTree
       let here : slice_get nodes at ≡ Some x = subst (λ (k : ℕ). slice_get nodes k ≡ Some x) (let i : at + 0 ≡ at = omega arith in i) (same 0) in
       let e : total weight nodes at ≡ weight x + sum_by (total weight nodes) (places_of x) = total_is at x here in
       let rest : span (total weight nodes) (suc at) (length xs) ≡ sum_by weight xs + sum_by (total weight nodes) (flat_map places_of xs) =
-        all_nodes xs (suc at) (λ k. subst (λ (i : ℕ). slice_get nodes i ≡ slice_get xs k) (let i : at + suc k ≡ suc at + k = omega arith in i) (same (suc k)))
+      all_nodes xs (suc at) (λ k. subst (λ (i : ℕ). slice_get nodes i ≡ slice_get xs k) (let i : at + suc k ≡ suc at + k = omega arith in i) (same (suc k)))
       in
       let both = sum_by-append (total weight nodes) (places_of x) (flat_map places_of xs) in
       let first = sum_by-cons weight x xs in
@@ -180,7 +180,7 @@ module _ (weight : Core → ℕ) (nodes : List Core) (root : ℕ) (tree : IsTree
   single : (k : ℕ) → k < length nodes → count (root ∷ flat_map places_of nodes) k * total weight nodes k ≡ total weight nodes k
   single k below =
       let e : count (root ∷ flat_map places_of nodes) k * total weight nodes k ≡ 1 * total weight nodes k =
-        times_same (count (root ∷ flat_map places_of nodes) k) 1 (total weight nodes k) (once_by k below (root == k) refl)
+      times_same (count (root ∷ flat_map places_of nodes) k) 1 (total weight nodes k) (once_by k below (root == k) refl)
       in
       omega (arith, e)
 
@@ -190,10 +190,10 @@ module _ (weight : Core → ℕ) (nodes : List Core) (root : ℕ) (tree : IsTree
       let same = λ (k : ℕ). ap (λ (i : ℕ). slice_get nodes i) (let i : 0 + k ≡ k = omega arith in i) in
       let whole : span (total weight nodes) 0 (length nodes) ≡ sum_by weight nodes + sum_by (total weight nodes) qs = all_nodes nodes 0 same in
       let parts : sum_by (total weight nodes) (root ∷ qs) ≡ span (λ k. count (root ∷ qs) k * total weight nodes k) 0 (length nodes) =
-        exchange (total weight nodes) (length nodes) (root ∷ qs) (tree.root_there, all_below nodes 0 same)
+      exchange (total weight nodes) (length nodes) (root ∷ qs) (tree.root_there, all_below nodes 0 same)
       in
       let once : span (λ k. count (root ∷ qs) k * total weight nodes k) 0 (length nodes) ≡ span (total weight nodes) 0 (length nodes) =
-        span_same (λ k. count (root ∷ qs) k * total weight nodes k) (total weight nodes) (length nodes) 0 (λ k low high. single k (omega (arith, high)))
+      span_same (λ k. count (root ∷ qs) k * total weight nodes k) (total weight nodes) (length nodes) 0 (λ k low high. single k (omega (arith, high)))
       in
       let first = sum_by-cons (total weight nodes) root qs in
       omega (arith, whole, parts, once, first)

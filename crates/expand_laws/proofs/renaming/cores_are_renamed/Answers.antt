@@ -11,8 +11,8 @@ use Rattle.expand_laws.proofs.renaming.cores_are_renamed.Goals as goal
 pub returns : goal.returns
 returns c trees unit other spans others core also =
     let walked : FormsWalked unit.forms.items other.forms.items spans others unit.shared other.shared =
-      forms_walked (definitions_of (tops_of (map datum_of trees))) unit.shared other.shared unit.forms.items spans (tops_of (map datum_of trees)) other.forms.items others
-      core.forms also.forms
+    forms_walked (definitions_of (tops_of (map datum_of trees))) unit.shared other.shared unit.forms.items spans (tops_of (map datum_of trees)) other.forms.items others
+    core.forms also.forms
     in
     let alike = walked.forms_alike walked.pairs (λ p h. h) in
     record {
