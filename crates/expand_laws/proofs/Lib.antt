@@ -1,3 +1,6 @@
+pub mod AlikeCounts
+pub mod AlikeSums
+pub mod AlikeWidths
 pub mod Always
 pub mod Around
 pub mod Atoms
@@ -22,6 +25,7 @@ pub mod Forming
 pub mod FormsBeside
 pub mod FormsMade
 pub mod Gaining
+pub mod Greatest
 pub mod LabelsShapes
 pub mod LetRows
 pub mod Lets
@@ -41,9 +45,9 @@ pub mod Reaching
 pub mod RefusalsOf
 pub mod Roots
 pub mod RowShapes
+pub mod SameCounts
 pub mod SameDefinitions
 pub mod SameNodes
-pub mod SameSizes
 pub mod Segments
 pub mod SetRows
 pub mod ShapesOfRows

@@ -5,7 +5,7 @@ use Rattle.t_expand.specs.Units.{tops_of, definitions_of}
 use Rattle.expand_laws.proofs.FormWalks.{FormsWalked, forms_walked}
 use Rattle.expand_laws.proofs.OneToOne.{one_to_one}
 use Rattle.expand_laws.proofs.SameDefinitions.{globals_same, ops_same}
-use Rattle.expand_laws.proofs.SameSizes.{same_size}
+use Rattle.expand_laws.proofs.SameCounts.{count_alike}
 use Rattle.expand_laws.proofs.renaming.cores_are_renamed.Goals as goal
 
 pub returns : goal.returns
@@ -20,6 +20,6 @@ returns c trees unit other spans others core also =
       one_to_one = one_to_one unit other walked.pairs spans others core.whole also.whole walked.each alike;
       forms = alike;
       globals = globals_same unit other core.whole also.whole walked.pairs spans others alike (sym core.globals ∙ also.globals);
-      size = same_size unit other walked.pairs spans others core.whole also.whole alike;
+      size = (count_alike unit other walked.pairs spans others core.whole also.whole alike).size;
       ops = ops_same unit other core.whole also.whole walked.pairs spans others alike (sym core.ops ∙ also.ops);
     }
