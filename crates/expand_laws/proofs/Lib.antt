@@ -1,5 +1,6 @@
 pub mod AlikeCounts
 pub mod AlikeSums
+pub mod AlikeTests
 pub mod AlikeWidths
 pub mod Always
 pub mod Around
@@ -15,6 +16,7 @@ pub mod Choices
 pub mod Collecting
 pub mod CondRows
 pub mod Constants
+pub mod CoresWalked
 pub mod CountedOnce
 pub mod Counting
 pub mod DoRows

@@ -54,6 +54,9 @@ module _ (unit other : UnitCore) (counts : map (form_count unit.shared.pairs.ite
   abbrev right : Form → ℕ
   right form = form_count other.shared.pairs.items form
 
+  most_same : greatest left unit.forms.items ≡ greatest right other.forms.items
+  most_same = greatest_by left right unit.forms.items other.forms.items counts
+
   weights_same : weight_of unit ≡ weight_of other
   weights_same = sums_by left right (λ n. (n + 8) * (n + 8)) unit.forms.items other.forms.items counts
 
@@ -74,7 +77,8 @@ module _ (unit other : UnitCore) (counts : map (form_count unit.shared.pairs.ite
   same_counts whole also = record {
     counts = counts;
     widths = widths;
-    size = whole.shared.size ∙ greatest_by left right unit.forms.items other.forms.items counts ∙ sym also.shared.size;
+    most = most_same;
+    size = whole.shared.size ∙ most_same ∙ sym also.shared.size;
     weight = weights_same;
     bulk = sums_by left right (λ n. n + 8) unit.forms.items other.forms.items counts;
     limits = limits_same;
