@@ -1,4 +1,5 @@
 pub mod Always
+pub mod Around
 pub mod Atoms
 pub mod Below
 pub mod Beside
@@ -18,6 +19,7 @@ pub mod Fine
 pub mod FirstOrNone
 pub mod FormWalks
 pub mod Forming
+pub mod FormsBeside
 pub mod FormsMade
 pub mod Gaining
 pub mod LabelsShapes
@@ -30,19 +32,23 @@ pub mod MethodShapes
 pub mod NameShapes
 pub mod NodeShapes
 pub mod ObjectChoice
+pub mod OneToOne
 pub mod Paired
 pub mod Placing
 pub mod PureForms
 pub mod Reached
 pub mod Reaching
 pub mod RefusalsOf
+pub mod Roots
 pub mod RowShapes
 pub mod SameDefinitions
 pub mod SameNodes
+pub mod SameSizes
 pub mod Segments
 pub mod SetRows
 pub mod ShapesOfRows
 pub mod Sizes
 pub mod Standing
 pub mod TableEnds
+pub mod TreeSums
 pub mod Walking
