@@ -13,6 +13,7 @@ pub mod Choices
 pub mod Collecting
 pub mod CondRows
 pub mod Constants
+pub mod Costs
 pub mod CountedOnce
 pub mod Counting
 pub mod DataSizes
