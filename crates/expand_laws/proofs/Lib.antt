@@ -13,6 +13,7 @@ pub mod Choices
 pub mod Collecting
 pub mod CondRows
 pub mod Constants
+pub mod CoresMade
 pub mod Costs
 pub mod CountedOnce
 pub mod Counting
@@ -20,6 +21,7 @@ pub mod DataSizes
 pub mod DefinedOnce
 pub mod Defining
 pub mod DoRows
+pub mod Few
 pub mod Fine
 pub mod Fineness
 pub mod FirstOrNone
