@@ -1,5 +1,5 @@
 -- Data of a text unit have a core or a first refusal, where the table costs no more on a form than some multiple of its size.
-use Rattle.std.proofs.Common.{◌≡◌, ◌⊎◌, inl, inr, ℕ, ◌*◌, ◌≤◌, ◌^◌, List, [], ◌∷◌, map, subst, sym, arith}
+use Rattle.std.proofs.Common.{◌⊎◌, inl, inr, ℕ, ◌*◌, ◌≤◌, ◌^◌, List, [], ◌∷◌, map, subst, sym, arith}
 use Rattle.std.specs.List.{AllByRecursion}
 use Rattle.t_reader.specs.declared.unit.Unit.{Unit as TextUnit}
 use Rattle.t_reader.specs.Grammar.{Value, Tree}
@@ -7,18 +7,17 @@ use Rattle.t_reader.specs.Unit.{IsWhole, HoldTrees}
 use Rattle.t_forms.specs.Data.{Datum, datum_of}
 use Rattle.t_forms.specs.Names.{Scope, Bound}
 use Rattle.t_rows.specs.declared.refusal.Refusal.{Refusal}
-use Rattle.t_rows.specs.Rows.{lambda_form}
 use Rattle.t_expand.specs.Meaning.{top_scope}
-use Rattle.t_expand.specs.Refusals.{Refused, RefusedIn}
+use Rattle.t_expand.specs.Refusals.{RefusedIn}
 use Rattle.t_expand.specs.Units.{tops_of, definitions_of}
 use Rattle.expand_laws.specs.Cores.{HasCore, HasFirstRefusal}
 use Rattle.expand_laws.proofs.Costs.{cost}
 use Rattle.expand_laws.proofs.Fine.{IsItem, IsFine, pure_item, pure_fine, listed_tail}
 use Rattle.expand_laws.proofs.FirstOrNone.{EndsOnGiven, first_or_none}
 use Rattle.expand_laws.proofs.FormsMade.{form_made_within}
-use Rattle.expand_laws.proofs.Made.{IsRight, Stock}
+use Rattle.expand_laws.proofs.Made.{IsRight}
 use Rattle.expand_laws.proofs.NameShapes.{DefinesOwn, definitions_own}
-use Rattle.expand_laws.proofs.Premises.{IsProcedure, IsFormOf, Makes, MakesForms}
+use Rattle.expand_laws.proofs.Premises.{IsProcedure, IsFormOf, MakesForms}
 use Rattle.expand_laws.proofs.Reached.{IsPure, HasMadeValues, Comes}
 use Rattle.expand_laws.proofs.Sizes.{size}
 use Rattle.expand_laws.proofs.TableEnds.{comes_pure, comes_ends}
