@@ -17,14 +17,15 @@ pub mod Choices
 pub mod Collecting
 pub mod CondRows
 pub mod Constants
+pub mod CoresMade
 pub mod CoresWalked
-pub mod Costs
 pub mod CountedOnce
 pub mod Counting
 pub mod DataSizes
 pub mod DefinedOnce
 pub mod Defining
 pub mod DoRows
+pub mod Few
 pub mod Fine
 pub mod Fineness
 pub mod FirstOrNone
@@ -55,6 +56,7 @@ pub mod Placing
 pub mod Premises
 pub mod PureForms
 pub mod Reached
+pub mod ReachedCosts
 pub mod Reaching
 pub mod Ready
 pub mod RefusalsOf
