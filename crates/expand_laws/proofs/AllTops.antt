@@ -23,7 +23,7 @@ pub all_tops : (names : List (List ℕ)) (defined : List Bound) (alloc : Global)
     → AreClean defined earlier ts → HasKinds defined ts → tops_size ts ≤ 2 ^ 26 → MadeTops names defined ts before
 all_tops names defined alloc earlier [] before makes fine clean kinds few = record { after = before; made = none_made names defined before }
 all_tops names defined alloc earlier (t ∷ ts) before makes fine clean kinds few =
-    let one = one_top names defined earlier t before makes fine.0 clean.0 in
+    let one = one_top names defined earlier t before makes fine.0 (omega (arith, few)) clean.0 in
     let rest = all_tops names defined alloc (earlier ++ t ∷ []) ts one.after makes fine.1 clean.1 kinds.1 (omega (arith, few)) in
     let nodes = one.made.few_nodes in
     let short : IsShort one.made.nodes = omega (arith, nodes, few) in

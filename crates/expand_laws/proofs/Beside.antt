@@ -28,7 +28,7 @@ block_places (k ∷ next ∷ rest) a b = ap (λ l. k ∷ l) (block_places (next 
 behind : (xs : List Part) (body : ℕ) (vars : List Var) (a b : Bool) → map (λ p. p.at) (xs ++ part body vars a ∷ []) ≡ map (λ p. p.at) (xs ++ part body vars b ∷ [])
 behind xs body vars a b = map-append (λ p. p.at) xs (part body vars a ∷ []) ∙ sym (map-append (λ p. p.at) xs (part body vars b ∷ []))
 
-places_are : (c : Core) (tail : Bool) → map (λ p. p.at) (parts_of c tail) ≡ places_of c
+pub places_are : (c : Core) (tail : Bool) → map (λ p. p.at) (parts_of c tail) ≡ places_of c
 places_are (Node.Block items) tail = block_places items tail false
 places_are (Node.Let vars values body) tail = behind (map early values) body vars tail false
 places_are (Node.Labels vars lambdas body) tail = behind (map (λ k. part k vars false) lambdas) body vars tail false
@@ -146,10 +146,10 @@ methods_beside (m ∷ ms) (n ∷ ns) h =
       (
         refl,
         zip_weaker (Beside m.params n.params) (Beside (m.params ++ more) (n.params ++ others)) (before_all m.params n.params more others) m.params n.params
-        (itself m.params n.params h.0),
+            (itself m.params n.params h.0),
       ),
       zip_weaker (PartsBeside more others) (PartsBeside (m.params ++ more) (n.params ++ others)) (shifted m.params n.params more others h.0) (map method_part ms) (map method_part ns)
-      (methods_beside ms ns h.1),
+          (methods_beside ms ns h.1),
     )
 
 -- of nodes of one kind

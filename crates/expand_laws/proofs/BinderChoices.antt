@@ -14,6 +14,7 @@ use Rattle.t_rows.specs.Rows.{lambda, let_, labels, catch_, Part, plain, inside}
 use Rattle.t_expand.specs.Building.{numbered}
 use Rattle.expand_laws.proofs.Choices.{first, early_seats, early_seated, early_placed, early_count}
 use Rattle.expand_laws.proofs.Counting.{numbered_length}
+use Rattle.expand_laws.proofs.Few.{few_node}
 use Rattle.expand_laws.proofs.Gaining.{gains_node, with_vars}
 use Rattle.expand_laws.proofs.Made.{Stock}
 use Rattle.expand_laws.proofs.Placing.{Seat, seat, placed}
@@ -38,6 +39,7 @@ lambda_choice names vars scope tail ns d before =
       seats = seat params true ∷ [];
       seated = (sym (numbered_length before.next n), tt);
       after = with_vars before n;
+      few = few_node before n lambda;
       core = λ ks. Node.Lambda params (first ks);
       gains = λ ks e. gains_node names before n (Node.Lambda params (first ks)) refl refl refl;
       parts_are = λ ks e. body_placed params true ks e;
@@ -57,6 +59,7 @@ catch_choice names vars scope tail n d before =
       seats = seat (v ∷ []) false ∷ [];
       seated = (refl, tt);
       after = with_vars before 1;
+      few = few_node before 1 catch_;
       core = λ ks. Node.Catch v (first ks);
       gains = λ ks e. gains_node names before 1 (Node.Catch v (first ks)) refl refl refl;
       parts_are = λ ks e. body_placed (v ∷ []) false ks e;
@@ -117,6 +120,7 @@ let_choice names vars scope tail ds ns d before same =
       seats = early_seats ds ++ s ∷ [];
       seated = seated_push (map plain ds) (early_seats ds) (inside ns d) s (early_seated ds) (sym (numbered_length before.next n));
       after = with_vars before n;
+      few = few_node before n let_;
       core = λ ks. Node.Let bound (front ks) (last ks);
       gains = λ ks e. gains_node names before n (Node.Let bound (front ks) (last ks)) refl refl refl;
       parts_are = λ ks e.
@@ -172,6 +176,7 @@ labels_choice names vars scope tail ps body before same procs =
       seats = label_seats bound ps ++ s ∷ [];
       seated = seated_push ps (label_seats bound ps) body s (label_seated bound n ps count procs) (same ∙ sym count);
       after = with_vars before n;
+      few = few_node before n labels;
       core = λ ks. Node.Labels bound (front ks) (last ks);
       gains = λ ks e. gains_node names before n (Node.Labels bound (front ks) (last ks)) refl refl refl;
       parts_are = λ ks e.

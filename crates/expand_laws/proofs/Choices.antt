@@ -16,6 +16,8 @@ use Rattle.t_forms.specs.Names.{Scope, Bound}
 use Rattle.t_rows.specs.Rows.{Shape, constant, local, global, builtin_value, op_value, lambda, if_, block, set_local, set_global, call, primitive, Part, plain}
 use Rattle.t_expand.specs.Meaning.{Fits}
 use Rattle.expand_laws.proofs.Constants.{constant_made}
+use Rattle.expand_laws.proofs.ReachedCosts.{shape_cost}
+use Rattle.expand_laws.proofs.Few.{IsFew, few_node}
 use Rattle.expand_laws.proofs.Gaining.{Gains, gains_node, with_vars}
 use Rattle.expand_laws.proofs.Made.{Stock, HasStock, HasDefined, IsRight}
 use Rattle.expand_laws.proofs.Placing.{Seat, seat, placed}
@@ -33,14 +35,15 @@ rest (k ∷ ks) = ks
 
 -- ---- nodes without parts
 
-leaf : (names : List (List ℕ)) (vars : List Var) (scope : Scope) (tail : Bool) (shape : Shape) (before after : Stock) (c : Core) → (shape ≡ lambda → ⊥) → Gains names before after (c ∷ [])
+leaf : (names : List (List ℕ)) (vars : List Var) (scope : Scope) (tail : Bool) (shape : Shape) (before after : Stock) (c : Core) → IsFew before after 1 (shape_cost shape) → (shape ≡ lambda → ⊥) → Gains names before after (c ∷ [])
     → parts_of c tail ≡ [] → ((shared : Shared) → HasStock names after shared → Fits shared vars tail shape c) → IsInPlace vars tail c
     → ((shared : Shared) (all : List Core) → IsNodeShaped shared all c) → ((shared : Shared) → HasStock names after shared → HasDefined scope.defined shared → NamesAreThere shared c)
     → Choice names vars scope tail shape [] before
-leaf names vars scope tail shape before after c other gains parts fits here shaped named = record {
+leaf names vars scope tail shape before after c few other gains parts fits here shaped named = record {
   seats = [];
   seated = tt;
   after = after;
+  few = few;
   core = λ ks. c;
   gains = λ ks e. gains;
   parts_are = λ ks e. parts;
@@ -56,7 +59,7 @@ pub constant_choice : (names : List (List ℕ)) (vars : List Var) (scope : Scope
     → Choice names vars scope tail (constant d) [] before
 constant_choice names vars scope tail d before pure =
     let c = constant_made names d before pure in
-    leaf names vars scope tail (constant d) before c.after (Node.Const c.const) (λ e. cc) c.gains refl c.quoted tt (λ shared all. tt) (λ shared h i. c.right shared h)
+    leaf names vars scope tail (constant d) before c.after (Node.Const c.const) c.few (λ e. cc) c.gains refl c.quoted tt (λ shared all. tt) (λ shared h i. c.right shared h)
 
 -- the item at a place below the length
 item_there : {A : Type 0} (xs : List A) (i : ℕ) → i < length xs → (x : A) × (slice_get xs i ≡ Some x)
@@ -71,18 +74,18 @@ pub local_choice : (names : List (List ℕ)) (vars : List Var) (scope : Scope) (
     → Choice names vars scope tail (local i) [] before
 local_choice names vars scope tail i before lt =
     let w = item_there vars i lt in
-    leaf names vars scope tail (local i) before (with_vars before 0) (Node.Local w.0) (λ e. cc) (gains_node names before 0 (Node.Local w.0) refl refl refl) refl (λ shared h. w.1)
+    leaf names vars scope tail (local i) before (with_vars before 0) (Node.Local w.0) (few_node before 0 (local i)) (λ e. cc) (gains_node names before 0 (Node.Local w.0) refl refl refl) refl (λ shared h. w.1)
     (contained vars i w.0 w.1) (λ shared all. tt) (λ shared h i. tt)
 
 pub global_choice : (names : List (List ℕ)) (vars : List Var) (scope : Scope) (tail : Bool) (g : ℕ) (before : Stock) (assigned : Bool) → IsDefinedGlobal scope.defined g assigned
     → Choice names vars scope tail (global g) [] before
 global_choice names vars scope tail g before assigned is =
-    leaf names vars scope tail (global g) before (with_vars before 0) (Node.Global g) (λ e. cc) (gains_node names before 0 (Node.Global g) refl refl refl) refl (λ shared h. refl) tt
+    leaf names vars scope tail (global g) before (with_vars before 0) (Node.Global g) (few_node before 0 (global g)) (λ e. cc) (gains_node names before 0 (Node.Global g) refl refl refl) refl (λ shared h. refl) tt
     (λ shared all. tt) (λ shared h i. i.globals g assigned is)
 
 pub builtin_choice : (names : List (List ℕ)) (vars : List Var) (scope : Scope) (tail : Bool) (p : Builtin) (before : Stock) → Choice names vars scope tail (builtin_value p) [] before
 builtin_choice names vars scope tail p before =
-    leaf names vars scope tail (builtin_value p) before (with_vars before 0) (Node.Builtin p) (λ e. cc) (gains_node names before 0 (Node.Builtin p) refl refl refl) refl (λ shared h. refl) tt
+    leaf names vars scope tail (builtin_value p) before (with_vars before 0) (Node.Builtin p) (few_node before 0 (builtin_value p)) (λ e. cc) (gains_node names before 0 (Node.Builtin p) refl refl refl) refl (λ shared h. refl) tt
     (λ shared all. tt) (λ shared h i. tt)
 
 pub known_op : (defined : List Bound) (o : ℕ) (shared : Shared) → IsKnownOp defined o → HasDefined defined shared → o < length shared.ops.items
@@ -92,7 +95,7 @@ known_op defined o shared (inr is) h = h.ops o is
 pub op_choice : (names : List (List ℕ)) (vars : List Var) (scope : Scope) (tail : Bool) (o : ℕ) (before : Stock) → IsKnownOp scope.defined o
     → Choice names vars scope tail (op_value o) [] before
 op_choice names vars scope tail o before is =
-    leaf names vars scope tail (op_value o) before (with_vars before 0) (Node.Op o) (λ e. cc) (gains_node names before 0 (Node.Op o) refl refl refl) refl (λ shared h. refl) tt (λ shared all. tt)
+    leaf names vars scope tail (op_value o) before (with_vars before 0) (Node.Op o) (few_node before 0 (op_value o)) (λ e. cc) (gains_node names before 0 (Node.Op o) refl refl refl) refl (λ shared h. refl) tt (λ shared all. tt)
     (λ shared h i. known_op scope.defined o shared is i)
 
 -- ---- nodes with parts that stand in no scope of the node's
@@ -127,6 +130,7 @@ branch names vars scope tail shape parts before seats core other seated gains pa
   seats = seats;
   seated = seated;
   after = with_vars before 0;
+  few = few_node before 0 shape;
   core = core;
   gains = λ ks e. gains ks;
   parts_are = parts_are;

@@ -110,9 +110,9 @@ module _ (form twin : Form) (ss ts : List Span) (shared other : Shared) (vars ot
         pairs = own.pairs ++ behind;
         each = each_of_both (BoundIn form twin) own.pairs behind own.each (each_of_both (BoundIn form twin) first.pairs rest.pairs first.each rest.each);
         same = λ all includes related.
-          let binds : AllZip (Renames all) q.binds r.binds = own.related all (λ p c. includes p (Contains-append_left own.pairs behind p c)) in
-          one_part q r qs rs binds paired.1
-          (first.same all (λ p c. includes p (Contains-append_right own.pairs behind p (Contains-append_left first.pairs rest.pairs p c)))
-           (zip_append (Renames all) q.binds r.binds vars others binds related))
-          (rest.same all (λ p c. includes p (Contains-append_right own.pairs behind p (Contains-append_right first.pairs rest.pairs p c))) related);
+            let binds : AllZip (Renames all) q.binds r.binds = own.related all (λ p c. includes p (Contains-append_left own.pairs behind p c)) in
+            one_part q r qs rs binds paired.1
+            (first.same all (λ p c. includes p (Contains-append_right own.pairs behind p (Contains-append_left first.pairs rest.pairs p c)))
+            (zip_append (Renames all) q.binds r.binds vars others binds related))
+            (rest.same all (λ p c. includes p (Contains-append_right own.pairs behind p (Contains-append_right first.pairs rest.pairs p c))) related);
       }

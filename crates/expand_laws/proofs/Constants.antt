@@ -23,9 +23,11 @@ use Rattle.t_forms.specs.Data.{Atom, given, variable, builtin, operation, listin
 use Rattle.t_expand.specs.Meaning.{IsQuoted}
 use Rattle.t_expand.proofs.QuotedLemmas.{Adds_trans, slice_get-Adds}
 use Rattle.expand_laws.proofs.Counting.{times, times_none, times_append, times_flat, Once, once_none, once_one, once_both, once_counted}
+use Rattle.expand_laws.proofs.Few.{IsFew}
 use Rattle.expand_laws.proofs.Gaining.{Gains, gains_none, gains_both, gains_as, stock_before, longer}
 use Rattle.expand_laws.proofs.Made.{IsRight, Stock, HasStock, strings_named, pairs_named}
 use Rattle.expand_laws.proofs.Reached.{IsPure}
+use Rattle.expand_laws.proofs.Sizes.{size}
 
 fixnum_in_range : (z : ℤ) → IsFixnum z → IsTrue (in_range z)
 fixnum_in_range (pos n) h = let i = h.1 in grind (arith, ints, nat_tests)
@@ -42,6 +44,7 @@ pub record ConstantMade (names : List (List ℕ)) (d : Datum) (before : Stock) :
   pub quoted : (shared : Shared) → HasStock names after shared → IsQuoted shared d const
   pub right : (shared : Shared) → HasStock names after shared → IsConst shared const
   pub below : StandsBelow (length after.pairs) const
+  pub few : IsFew before after 1 (size d)
 
 -- ---- atoms
 
@@ -51,9 +54,9 @@ plain_gains names s c e f =
     gains_as names s s [] (Node.Const c ∷ []) (λ k. refl) (λ k. ap (λ l. times k l) (append-nil (string_in c) ∙ e)) (λ k. ap (λ l. times k l) (append-nil (pair_in c) ∙ f))
     (gains_none names s)
 
-string_made : (names : List (List ℕ)) (at : Datum) (bytes : List ℕ) (s : Stock) → All (λ b. b < 128) bytes
+string_made : (names : List (List ℕ)) (at : Datum) (bytes : List ℕ) (s : Stock) → size at ≡ 1 → All (λ b. b < 128) bytes
     → ((shared : Shared) (c : Const) → (place : ℕ) × (c ≡ Constant.Str place) × (slice_get shared.strings.items place ≡ Some bytes) → IsQuoted shared at c) → ConstantMade names at s
-string_made names at bytes s right quoted =
+string_made names at bytes s one right quoted =
     let place = length s.strings in
     record {
       const = Constant.Str place;
@@ -74,6 +77,7 @@ string_made names at bytes s right quoted =
       quoted = λ shared h. quoted shared (Constant.Str place) (place, refl, there shared h);
       right = λ shared h. slice_get_within shared.strings.items place bytes (there shared h);
       below = tt;
+      few = record { nodes = omega (arith, one); strings = omega (arith, one, length-append s.strings (bytes ∷ [])); pairs = omega arith };
     }
   where
     wider : (low n : ℕ) → 0 < n → Once low (low + n) (low ∷ [])
@@ -83,6 +87,9 @@ string_made names at bytes s right quoted =
         → slice_get shared.strings.items (length s.strings) ≡ Some bytes
     there shared h = slice_get-Adds (s.strings ++ bytes ∷ []) shared.strings.items (length s.strings) bytes h.strings (last_there s.strings bytes)
 
+few_atom : (s : Stock) → IsFew s s 1 1
+few_atom s = record { nodes = omega arith; strings = omega arith; pairs = omega arith }
+
 atom_made : (names : List (List ℕ)) (s : Span) (a : Atom) (before : Stock) → IsPure (IsRight names) (atom s a) → ConstantMade names (atom s a) before
 atom_made names s (given (fix z)) before right = record {
   const = Constant.Fix z;
@@ -91,6 +98,7 @@ atom_made names s (given (fix z)) before right = record {
   quoted = λ shared h. refl;
   right = λ shared h. fixnum_in_range z right;
   below = tt;
+  few = few_atom before;
 }
 atom_made names s (given (char b)) before right = record {
   const = Constant.Char b;
@@ -99,6 +107,7 @@ atom_made names s (given (char b)) before right = record {
   quoted = λ shared h. refl;
   right = λ shared h. right;
   below = tt;
+  few = few_atom before;
 }
 atom_made names s (given nil) before right = record {
   const = Constant.Nil;
@@ -107,6 +116,7 @@ atom_made names s (given nil) before right = record {
   quoted = λ shared h. refl;
   right = λ shared h. tt;
   below = tt;
+  few = few_atom before;
 }
 atom_made names s (given truth) before right = record {
   const = Constant.True;
@@ -115,8 +125,9 @@ atom_made names s (given truth) before right = record {
   quoted = λ shared h. refl;
   right = λ shared h. tt;
   below = tt;
+  few = few_atom before;
 }
-atom_made names s (given (string bytes)) before right = string_made names (atom s (given (string bytes))) bytes before right (λ shared c h. h)
+atom_made names s (given (string bytes)) before right = string_made names (atom s (given (string bytes))) bytes before refl right (λ shared c h. h)
 atom_made names s (given (symbol text)) before right = record {
   const = Constant.Sym (record { 0 = right.0 });
   after = before;
@@ -124,6 +135,7 @@ atom_made names s (given (symbol text)) before right = record {
   quoted = λ shared h. (record { 0 = right.0 }, refl, there shared h);
   right = λ shared h. slice_get_within shared.names right.0 text (there shared h);
   below = tt;
+  few = few_atom before;
 }
   where
     there : (shared : Shared) → HasStock names before shared → slice_get shared.names right.0 ≡ Some text
@@ -221,6 +233,11 @@ pair_made names s head tail before h t =
       quoted = λ shared i. (place, p, refl, there shared i, h.quoted shared (front shared i), t.quoted shared (back shared i));
       right = λ shared i. slice_get_within shared.pairs.items place p (there shared i);
       below = omega (arith, count);
+      few = record {
+        nodes = omega arith;
+        strings = omega (arith, h.few.strings, t.few.strings);
+        pairs = omega (arith, count, h.few.pairs, t.few.pairs);
+      };
     }
   where
     all : Stock

@@ -1,21 +1,19 @@
 -- Forms that are what one list of data stands for are alike, and their variables are bound together.
-use Rattle.std.proofs.Common.{◌≡◌, ℕ, suc, ◌<◌, true, false, List, [], ◌∷◌, ◌++◌, length, slice_get, Option, Some, None, inl, inr, refl, sym, subst, ◌∙◌}
+use Rattle.std.proofs.Common.{◌≡◌, suc, true, false, List, [], ◌∷◌, ◌++◌, Option, Some, None, inl, inr, refl, sym, ◌∙◌}
 use Rattle.std.proofs.lemmas.List.Elements.{Contains-append_left, Contains-append_right}
 use Rattle.t_base.specs.declared.basics.Span.{Span}
 use Rattle.t_base.specs.declared.basics.Var.{Var}
 use Rattle.t_base.specs.declared.shared_parts.Shared.{Shared}
 use Rattle.t_core.specs.declared.forms.Form.{Form}
 use Rattle.t_core.specs.declared.forms.FormKind.{FormKind}
-use Rattle.t_core.specs.declared.forms.UnitCore.{UnitCore}
-use Rattle.t_core.specs.Whole.{IsTree, HasPlaces, IsWhole}
 use Rattle.t_forms.specs.Data.{Datum}
 use Rattle.t_forms.specs.Names.{Meaning, Bound, a_global, an_op}
 use Rattle.t_rows.specs.Rows.{Definition, define, lset, operation_form}
 use Rattle.t_expand.specs.Meaning.{ValueMeans, RootMeans, IsKind, FormMeans, FormsMean, top_scope}
 use Rattle.t_expand.specs.Units.{Top, defining, broken, expression, meaning_of}
-use Rattle.expand_laws.specs.Renaming.{Renaming, IsOneToOne, RootsAlike, FormsAlike, nodes_of}
+use Rattle.expand_laws.specs.Renaming.{Renaming, RootsAlike, FormsAlike, nodes_of}
 use Rattle.expand_laws.proofs.Collecting.{Includes, EachPair, Walked, each_of_both, no_pairs}
-use Rattle.expand_laws.proofs.Paired.{BoundIn, BoundTogether, at_roots, all_at, flipped_together, one_together}
+use Rattle.expand_laws.proofs.Paired.{BoundIn, BoundTogether, at_roots}
 use Rattle.expand_laws.proofs.Walking.{walked}
 
 -- ---- one form
@@ -40,7 +38,7 @@ module _ (defined : List Bound) (shared other : Shared) where
       → RootMeans defined other (nodes_of twin ts) d twin.root → ValueWalked form twin ss ts shared other
   root_walked form twin ss ts d m n =
       let w : Walked form twin ss ts shared other [] [] false form.root twin.root =
-        walked form twin ss ts shared other [] [] (top_scope defined) d false form.root twin.root m n (at_roots form.root twin.root refl refl)
+      walked form twin ss ts shared other [] [] (top_scope defined) d false form.root twin.root m n (at_roots form.root twin.root refl refl)
       in
       record { pairs = w.pairs; each = w.each; roots = λ all includes. inr (w.same all includes tt) }
 
@@ -50,7 +48,7 @@ module _ (defined : List Bound) (shared other : Shared) where
   value_walked form twin ss ts (lset b d) m n = root_walked form twin ss ts d m n
   value_walked form twin ss ts (operation_form b ps (Some d)) m n = root_walked form twin ss ts d m n
   value_walked form twin ss ts (operation_form b ps None) m n =
-      record { pairs = []; each = no_pairs (BoundIn form twin); roots = λ all includes. inl (m.1, n.1) }
+      record { pairs = []; each = no_pairs (BoundIn form twin); roots = λ all includes. inl (m.1, n.1, m.2 ∙ sym n.2) }
 
   form_walked : (form twin : Form) (ss ts : List Span) (top : Top) → FormMeans defined shared form ss top → FormMeans defined other twin ts top
       → FormWalked form twin ss ts shared other
@@ -79,8 +77,8 @@ one_form_more : (form twin : Form) (forms twins : List Form) (ss ts : List Span)
 one_form_more form twin forms twins ss ts sss tss shared other first rest = record {
   pairs = first.value.pairs ++ rest.pairs;
   each =
-    each_of_both (BoundTogether (form ∷ forms) (twin ∷ twins)) first.value.pairs rest.pairs (λ p c. first_together form twin forms twins p.0 p.1 (first.value.each p c))
-    (λ p c. later_together form twin forms twins p.0 p.1 (rest.each p c));
+      each_of_both (BoundTogether (form ∷ forms) (twin ∷ twins)) first.value.pairs rest.pairs (λ p c. first_together form twin forms twins p.0 p.1 (first.value.each p c))
+      (λ p c. later_together form twin forms twins p.0 p.1 (rest.each p c));
   forms_alike = λ all includes. (
     first.kinds,
     first.value.roots all (λ p c. includes p (Contains-append_left first.value.pairs rest.pairs p c)),
@@ -106,21 +104,3 @@ forms_walked defined shared other (f ∷ forms) (s ∷ sss) (top ∷ tops) (g �
 forms_walked defined shared other (f ∷ forms) (s ∷ sss) (top ∷ tops) (g ∷ twins) (t ∷ tss) m n =
     one_form_more f g forms twins s t sss tss shared other (form_walked defined shared other f g s t top m.0 n.0)
     (forms_walked defined shared other forms sss tops twins tss m.1 n.1)
-
--- ---- one to one
-
-trees_of : (unit : UnitCore) → IsWhole unit → (f : ℕ) (form : Form) → slice_get unit.forms.items f ≡ Some form → 0 < length form.nodes.items
-    → IsTree form.nodes.items form.root
-trees_of unit whole f form is some =
-    let places : HasPlaces unit.shared form = all_at (HasPlaces unit.shared) unit.forms.items f form is whole.places in places.tree some
-
--- variables of two whole units that are bound together
-pub one_to_one : (unit other : UnitCore) (pairs : Renaming) → IsWhole unit → IsWhole other → EachPair (BoundTogether unit.forms.items other.forms.items) pairs → IsOneToOne pairs
-one_to_one unit other pairs whole also each =
-    λ p q cp cq. (
-      λ e. one_together unit.forms.items other.forms.items p.0 p.1 q.1 (trees_of unit whole) whole.scopes.bound_once (each p cp)
-      (subst (λ v. BoundTogether unit.forms.items other.forms.items v q.1) (sym e) (each q cq)),
-      λ e. one_together other.forms.items unit.forms.items p.1 p.0 q.0 (trees_of other also) also.scopes.bound_once
-      (flipped_together unit.forms.items other.forms.items p.0 p.1 (each p cp))
-      (subst (λ v. BoundTogether other.forms.items unit.forms.items v q.0) (sym e) (flipped_together unit.forms.items other.forms.items q.0 q.1 (each q cq))),
-    )

@@ -14,8 +14,10 @@ use Rattle.t_expand.specs.Meaning.{top_scope}
 use Rattle.t_expand.specs.Refusals.{Refused, in_form, at_form, in_part}
 use Rattle.expand_laws.proofs.BinderChoices.{lambda_choice, catch_choice, let_choice, labels_choice}
 use Rattle.expand_laws.proofs.Choices.{constant_choice, local_choice, global_choice, builtin_choice, op_choice, if_choice, block_choice, set_local_choice, set_global_choice, call_choice, primitive_choice}
+use Rattle.expand_laws.proofs.ReachedCosts.{cost, all_cost}
 use Rattle.expand_laws.proofs.Counting.{once_pairs, once_between}
-use Rattle.expand_laws.proofs.Made.{Stock, FormMade, IsRight, numbers, strings_named, pairs_named}
+use Rattle.expand_laws.proofs.Few.{few_more}
+use Rattle.expand_laws.proofs.Made.{Stock, FormMadeWithin, IsRight, numbers, strings_named, pairs_named}
 use Rattle.expand_laws.proofs.ObjectChoice.{object_choice}
 use Rattle.expand_laws.proofs.Placing.{Seat, sits_all, is_tree}
 use Rattle.expand_laws.proofs.Reached.{HasBuiltinOps, IsRightShape, Comes, to_form, to_node, AllCome, no_parts, one_part, IsShaped}
@@ -75,37 +77,40 @@ both_count xs us ys vs e f = omega (arith, length-append xs us, length-append ys
 -- the nodes of a form, and of the parts of a node
 mutual
   pub segment : (right : Value → Type 0) (names : List (List ℕ)) → ((shape : Shape) → IsRightShape right shape → IsRightShape (IsRight names) shape) → (scope : Scope) (d : Datum)
-      → Comes right scope d → RowsShaped scope.defined → ((r : Refusal) → Refused scope d r → ⊥) → (vars : List Var) → length vars ≡ length scope.locals → (tail : Bool) (start : ℕ)
-      (before : Stock) → Segment names vars scope d tail start before
+      (c : Comes right scope d) → RowsShaped scope.defined → ((r : Refusal) → Refused scope d r → ⊥) → (vars : List Var) → length vars ≡ length scope.locals → (tail : Bool) (start : ℕ)
+      (before : Stock) → Segment names vars scope d tail start before (cost right scope d c)
   segment right names same scope d (to_form _ _ e is h) rows none vars count tail start before =
-      form_segment names vars scope d e tail start before is
+      form_segment names vars scope d e tail start before (cost right scope e h) is
       (segment right names same scope e h rows (λ r i. none r (in_form scope d e r is i)) vars count tail start before)
   segment right names same scope d (to_node _ _ shape [] parts is ops pure all) rows none vars count tail start before =
       let c = choice names vars scope tail shape parts before count (same shape pure) (rows scope.locals d shape parts ops is) in
-      node_segment names vars scope d tail start before shape parts is c
+      node_segment names vars scope d tail start before shape parts (all_cost right scope parts all) is c
       (segments right names same scope parts all rows (λ r p there i. none r (in_part scope d r shape [] parts p is there i)) vars count c.seats c.seated start c.after)
   segment right names same scope d (to_node _ _ shape (r ∷ rs) parts is ops pure all) rows none vars count tail start before =
       absurd (none r (at_form scope d r shape (r ∷ rs) parts is (contains_first r rs)))
 
   pub segments : (right : Value → Type 0) (names : List (List ℕ)) → ((shape : Shape) → IsRightShape right shape → IsRightShape (IsRight names) shape) → (scope : Scope) (parts : List Part)
-      → AllCome right scope parts → RowsShaped scope.defined → ((r : Refusal) (p : Part) → Contains parts p → Refused (within scope p.binds) p.form r → ⊥) → (vars : List Var)
-      → length vars ≡ length scope.locals → (seats : List Seat) → AreSeated parts seats → (start : ℕ) (before : Stock) → Segments names vars scope parts seats start before
+      (all : AllCome right scope parts) → RowsShaped scope.defined → ((r : Refusal) (p : Part) → Contains parts p → Refused (within scope p.binds) p.form r → ⊥) → (vars : List Var)
+      → length vars ≡ length scope.locals → (seats : List Seat) → AreSeated parts seats → (start : ℕ) (before : Stock)
+      → Segments names vars scope parts seats start before (all_cost right scope parts all)
   segments right names same scope parts (no_parts _) rows none vars count [] seated start before = no_segments names vars scope start before
   segments right names same scope parts (no_parts _) rows none vars count (s ∷ seats) seated start before = absurd seated
   segments right names same scope parts (one_part _ p ps h all) rows none vars count [] seated start before = absurd seated
   segments right names same scope parts (one_part _ p ps h all) rows none vars count (s ∷ seats) seated start before =
       let x = segment right names same (within scope p.binds) p.form h rows (λ r i. none r p (contains_first p ps) i) (s.binds ++ vars)
       (both_count p.binds scope.locals s.binds vars seated.0 (sym count)) s.tail start before in
-      more_segments names vars scope p s ps seats start before seated.0 x
+      more_segments names vars scope p s ps seats start before (cost right (within scope p.binds) p.form h) (all_cost right scope ps all) seated.0 x
       (segments right names same scope ps all rows (λ r q there i. none r q (contains_more p q ps there) i) vars count seats seated.1 (start + length x.nodes) x.after)
 
 -- the nodes of a whole form
-pub form_made : (names : List (List ℕ)) (defined : List Bound) (d : Datum) (before : Stock) → RowsShaped defined → Comes (IsRight names) (top_scope defined) d
-    → ((r : Refusal) → Refused (top_scope defined) d r → ⊥) → (after : Stock) × FormMade names defined d before after
-form_made names defined d before rows comes none =
-    let x = segment (IsRight names) names (λ shape h. h) (top_scope defined) d comes rows none [] refl false 0 before in (
-      x.after,
-      record {
+pub form_made : (names : List (List ℕ)) (defined : List Bound) (d : Datum) (before : Stock) → RowsShaped defined → (c : Comes (IsRight names) (top_scope defined) d)
+    → ((r : Refusal) → Refused (top_scope defined) d r → ⊥) → FormMadeWithin names defined d before (cost (IsRight names) (top_scope defined) d c)
+form_made names defined d before rows c none =
+    let x = segment (IsRight names) names (λ shape h. h) (top_scope defined) d c rows none [] refl false 0 before in
+    let bound = cost (IsRight names) (top_scope defined) d c in
+    record {
+      after = x.after;
+      made = record {
         nodes = x.nodes;
         spans = x.spans;
         root = x.root;
@@ -131,5 +136,8 @@ form_made names defined d before rows comes none =
         pairs_right = x.gains.pairs_right;
         lower = x.gains.lower;
         root_is = λ ns e is. x.root_is x.nodes (sits_all x.nodes) ns e is;
-      },
-    )
+      };
+      few_nodes = x.few.nodes;
+      few_strings = few_more before.strings x.after.strings x.gains.new_strings bound x.gains.strings_are x.few.strings;
+      few_pairs = few_more before.pairs x.after.pairs x.gains.new_pairs bound x.gains.pairs_are x.few.pairs;
+    }

@@ -98,3 +98,11 @@ pub record FormMade (names : List (List ℕ)) (defined : List Bound) (d : Datum)
   -- where the form is a LAMBDA, so is the root, with as many parameters
   pub root_is : (ns : List Name) (e : Datum) → row (top_scope defined) d ≡ node lambda [] (inside ns e ∷ [])
       → (params : List Var) × (body : ℕ) × (slice_get nodes root ≡ Some (Node.Lambda params body)) × (length params ≡ length ns)
+
+-- a form that is made, with so many nodes, new strings and new pairs at most
+pub record FormMadeWithin (names : List (List ℕ)) (defined : List Bound) (d : Datum) (before : Stock) (bound : ℕ) : Type 0 where
+  pub after : Stock
+  pub made : FormMade names defined d before after
+  pub few_nodes : length made.nodes ≤ bound
+  pub few_strings : length made.new_strings ≤ bound
+  pub few_pairs : length made.new_pairs ≤ bound

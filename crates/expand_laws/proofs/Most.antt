@@ -37,9 +37,13 @@ most_beside a k c le = let s = most_sum a k c le in let t = most_some k in omega
 pub most_three : (a b c d : ℕ) → a + b + c ≤ d → most a + most b + most c ≤ most d
 most_three a b c d le = let s = most_sum a b (a + b) (omega arith) in let t = most_sum (a + b) c d le in omega (arith, s, t)
 
-pub most_limit : (n : ℕ) → n ≤ 2 ^ 26 → most n ≤ 2 ^ 57
+product_more : (n m : ℕ) → n ≤ m → n * n ≤ m * n
+product_more n m le = let k : m ≡ n + (m - n) = omega (arith, le) in rw k (omega arith)
+
+-- of what is no larger than a whole text unit
+pub most_multiple : (n : ℕ) → n ≤ 2 ^ 26 → most n ≤ 2 ^ 31 * n
 unfolding most
-most_limit n le = most_more n (2 ^ 26) le
+most_multiple n le = let p = product_more n (2 ^ 26) le in omega (arith, p)
 
 -- ---- lists
 

@@ -13,6 +13,7 @@ use Rattle.t_rows.specs.Rows.{lambda, object, Part, plain}
 use Rattle.t_expand.specs.Building.{numbered}
 use Rattle.expand_laws.proofs.Choices.{first, rest, known_op}
 use Rattle.expand_laws.proofs.Counting.{numbered_length, numbered_append}
+use Rattle.expand_laws.proofs.Few.{few_node}
 use Rattle.expand_laws.proofs.Gaining.{gains_node, with_vars}
 use Rattle.expand_laws.proofs.Made.{Stock, HasDefined}
 use Rattle.expand_laws.proofs.Placing.{Seat, seat, placed}
@@ -100,6 +101,7 @@ object_choice names vars scope tail ops d ps before same named known =
       seats = seat [] false ∷ seats;
       seated = (refl, method_seated before.next ps);
       after = with_vars before n;
+      few = few_node before n (object ops);
       core = λ ks. Node.Object (first ks) (methods ops seats (rest ks));
       gains = λ ks e. gains_node names before n (Node.Object (first ks) (methods ops seats (rest ks))) (methods_bound before.next ps ops (rest ks) same (behind ks e)) refl refl;
       parts_are = λ ks e. object_placed before.next ps ops ks same (omega (arith, e, seats_count before.next ps));

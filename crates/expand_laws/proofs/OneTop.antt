@@ -94,9 +94,9 @@ top_of_form texts defined t d before m same stands filled = record {
     ascii = m.made.ascii;
     pairs_right = m.made.pairs_right;
     lower = m.made.lower;
-    few_nodes = subst (λ n. length m.made.nodes ≤ 2 ^ 30 * n) (sym same) m.few_nodes;
-    few_strings = subst (λ n. length m.made.new_strings ≤ 2 ^ 30 * n) (sym same) m.few_strings;
-    few_pairs = subst (λ n. length m.made.new_pairs ≤ 2 ^ 30 * n) (sym same) m.few_pairs;
+    few_nodes = subst (λ n. length m.made.nodes ≤ 2 ^ 31 * n) (sym same) m.few_nodes;
+    few_strings = subst (λ n. length m.made.new_strings ≤ 2 ^ 31 * n) (sym same) m.few_strings;
+    few_pairs = subst (λ n. length m.made.new_pairs ≤ 2 ^ 31 * n) (sym same) m.few_pairs;
   };
 }
 
@@ -175,22 +175,22 @@ none_contained (r ∷ rs) none = absurd (none r (Contains-append_left (r ∷ [])
 
 -- ---- any of them
 
-pub one_top : (texts : List (List ℕ)) (defined : List Bound) (earlier : List Top) (t : Top) (before : Stock) → MakesForms texts defined → IsFineTop texts t
+pub one_top : (texts : List (List ℕ)) (defined : List Bound) (earlier : List Top) (t : Top) (before : Stock) → MakesForms texts defined → IsFineTop texts t → top_size t ≤ 2 ^ 26
     → ((r : Refusal) → RefusedTop defined earlier t r → ⊥) → MadeTop texts defined t before
-one_top texts defined earlier (defining (define b d)) before makes fine none =
-    let m = makes d before fine.1 (λ r h. none r (inr h)) in
+one_top texts defined earlier (defining (define b d)) before makes fine few none =
+    let m = makes d before fine.1 few (λ r h. none r (inr h)) in
     top_of_form texts defined (defining (define b d)) d before m refl (λ shared n root h. h) m.made.some
-one_top texts defined earlier (defining (lset b d)) before makes fine none =
-    let m = makes d before fine.1 (λ r h. none r (inr h)) in
+one_top texts defined earlier (defining (lset b d)) before makes fine few none =
+    let m = makes d before fine.1 few (λ r h. none r (inr h)) in
     top_of_form texts defined (defining (lset b d)) d before m refl (λ shared n root h. h) m.made.some
-one_top texts defined earlier (defining (operation_form b ps (Some d))) before makes fine none =
+one_top texts defined earlier (defining (operation_form b ps (Some d))) before makes fine few none =
     let f = fine.1 in
-    let m = makes d before f.0 (λ r h. none r (inr h)) in
+    let m = makes d before f.0 few (λ r h. none r (inr h)) in
     top_of_form texts defined (defining (operation_form b ps (Some d))) d before m refl (λ shared n root h. h)
     (default_filled texts defined ps d before m.after m.made f.1 (λ r h. none r (inr h)))
-one_top texts defined earlier (defining (operation_form b ps None)) before makes fine none =
+one_top texts defined earlier (defining (operation_form b ps None)) before makes fine few none =
     empty_top texts defined b ps before (none_contained (twice ps) (λ r h. none r (inr h)))
-one_top texts defined earlier (broken s) before makes fine none = absurd (none (refusal BadForm s) refl)
-one_top texts defined earlier (expression d) before makes fine none =
-    let m = makes d before fine (λ r h. none r h) in
+one_top texts defined earlier (broken s) before makes fine few none = absurd (none (refusal BadForm s) refl)
+one_top texts defined earlier (expression d) before makes fine few none =
+    let m = makes d before fine few (λ r h. none r h) in
     top_of_form texts defined (expression d) d before m refl (λ shared n root h. h) m.made.some

@@ -137,8 +137,8 @@ one_within form other v w x tree once a b =
     let same_core : a.c ≡ b.c = same_Some a.c b.c (sym a.node_is ∙ ap (slice_get form.nodes.items) same_node ∙ b.node_is) in
     let same_place : a.i ≡ b.i = once_within binders_of form.nodes.items a.k a.c v once a.node_is a.i b.i a.left (subst (λ n. slice_get (binders_of n) b.i ≡ Some v) (sym same_core) b.left) in
     let same_other : a.j ≡ b.j =
-      one_beside form.nodes.items other.nodes.items form.root other.root a.k a.j b.j tree a.paired
-      (subst (λ n. Paired form.nodes.items other.nodes.items form.root other.root n b.j) (sym same_node) b.paired)
+    one_beside form.nodes.items other.nodes.items form.root other.root a.k a.j b.j tree a.paired
+    (subst (λ n. Paired form.nodes.items other.nodes.items form.root other.root n b.j) (sym same_node) b.paired)
     in
     let same_found : a.d ≡ b.d = same_Some a.d b.d (sym a.other_is ∙ ap (slice_get other.nodes.items) same_other ∙ b.other_is) in
     same_Some w x (sym a.right ∙ ap (slice_get (binders_of a.d)) same_place ∙ subst (λ n. slice_get (binders_of n) b.i ≡ Some x) (sym same_found) b.right)

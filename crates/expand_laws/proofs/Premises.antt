@@ -29,11 +29,11 @@ IsFormOf names d = IsPure (IsRight names) d ⊎ IsProcedure names d
 pub record Makes (names : List (List ℕ)) (defined : List Bound) (d : Datum) (before : Stock) : Type 0 where
   pub after : Stock
   pub made : FormMade names defined d before after
-  pub few_nodes : length made.nodes ≤ 2 ^ 30 * size d
-  pub few_strings : length made.new_strings ≤ 2 ^ 30 * size d
-  pub few_pairs : length made.new_pairs ≤ 2 ^ 30 * size d
+  pub few_nodes : length made.nodes ≤ 2 ^ 31 * size d
+  pub few_strings : length made.new_strings ≤ 2 ^ 31 * size d
+  pub few_pairs : length made.new_pairs ≤ 2 ^ 31 * size d
 
--- each form in which nothing is refused is made, from whatever stands before it
+-- each form that is no larger than a whole text unit, and in which nothing is refused, is made, from whatever stands before it
 abbrev pub MakesForms : List (List ℕ) → List Bound → Type 0
 MakesForms names defined =
-    (d : Datum) (before : Stock) → IsFormOf names d → ((r : Refusal) → Refused (top_scope defined) d r → ⊥) → Makes names defined d before
+    (d : Datum) (before : Stock) → IsFormOf names d → size d ≤ 2 ^ 26 → ((r : Refusal) → Refused (top_scope defined) d r → ⊥) → Makes names defined d before

@@ -1,6 +1,6 @@
 -- Every node of a form is reached from its root, so that each has a node beside it in a form that is alike.
-use Rattle.std.proofs.Common.{◌≡◌, ◌⊎◌, ℕ, zero, suc, ◌+◌, ◌<◌, ◌≤◌, ◌==◌, Bool, true, false, List, [], ◌∷◌, ◌++◌, length, map, slice_get, count_by, Option, Some, None, inl, inr, ⊎_elim, refl, sym, ap, subst, ◌∙◌, arith}
-use Rattle.std.specs.List.{flat_map, AllZip}
+use Rattle.std.proofs.Common.{◌≡◌, ◌⊎◌, ℕ, zero, suc, ◌+◌, ◌<◌, ◌≤◌, ◌==◌, Bool, true, false, List, [], ◌∷◌, ◌++◌, length, slice_get, Some, inl, inr, refl, sym, subst, ◌∙◌, arith}
+use Rattle.std.specs.List.{flat_map}
 use Rattle.std.proofs.lemmas.Bool.Decides.{Decides-eqb}
 use Rattle.std.proofs.lemmas.Option.{slice_get_within, same_Some}
 use Rattle.t_base.specs.declared.basics.Span.{Span}
@@ -65,7 +65,7 @@ module _ (nodes others : List Core) (root top : ℕ) (tree : IsTree nodes root) 
   parent : (k : ℕ) → k < length nodes → (k == root) ≡ false → StandsIn places_of nodes k
   parent k below other =
       let there : IsThere (λ place. place == k) (flat_map places_of nodes) =
-        counted_there (λ place. place == k) (flat_map places_of nodes) (named nodes root k tree below false other)
+      counted_there (λ place. place == k) (flat_map places_of nodes) (named nodes root k tree below false other)
       in
       let same : there.x ≡ k = (Decides-eqb there.x k).0 there.passes in
       piece_of places_of nodes there.i k (subst (λ x. slice_get (flat_map places_of nodes) there.i ≡ Some x) same there.found)
@@ -154,12 +154,12 @@ module _ (renaming : Renaming) (shared other : Shared) (form twin : Form) (ss ts
       → slice_get (places_of c) i ≡ Some x → slice_get (places_of d) i ≡ Some y → (last : Bool) × At last x y
   of_parent k j i x y c d tail a g h p q =
       let are : AlikeAt renaming shared other (nodes_of form ss) (nodes_of twin ts) tail c d =
-        at_these renaming shared other (nodes_of form ss) (nodes_of twin ts) tail k j c d (nodes_alike renaming shared other (nodes_of form ss) (nodes_of twin ts) tail k j a) g h
+      at_these renaming shared other (nodes_of form ss) (nodes_of twin ts) tail k j c d (nodes_alike renaming shared other (nodes_of form ss) (nodes_of twin ts) tail k j a) g h
       in
       let left : (r : Part) × (slice_get (parts_of c tail) i ≡ Some r) × (r.at ≡ x) = part_of_place c tail i x p in
       let right : (r : Part) × (slice_get (parts_of d tail) i ≡ Some r) × (r.at ≡ y) = part_of_place d tail i y q in
       let one : At (left.0).tail (left.0).at (right.0).at =
-        part_alike renaming shared other (nodes_of form ss) (nodes_of twin ts) (parts_of c tail) (parts_of d tail) i left.0 right.0 are.parts left.1 right.1
+      part_alike renaming shared other (nodes_of form ss) (nodes_of twin ts) (parts_of c tail) (parts_of d tail) i left.0 right.0 are.parts left.1 right.1
       in
       ((left.0).tail, subst (λ z. At (left.0).tail x z) right.2 (subst (λ z. At (left.0).tail z (right.0).at) left.2 one))
 
@@ -180,10 +180,10 @@ module _ (renaming : Renaming) (shared other : Shared) (form twin : Form) (ss ts
       let are : Are a.0 p q = nodes_alike renaming shared other (nodes_of form ss) (nodes_of twin ts) a.0 p q a.1 in
       let same : are.c ≡ c = same_Some are.c c (sym are.node_is ∙ g) in
       let left : (r : Part) × (slice_get (parts_of are.c a.0) i ≡ Some r) × (r.at ≡ x) =
-        part_of_place are.c a.0 i x (subst (λ n. slice_get (places_of n) i ≡ Some x) (sym same) h)
+      part_of_place are.c a.0 i x (subst (λ n. slice_get (places_of n) i ≡ Some x) (sym same) h)
       in
       let right : (r : Part) × (slice_get (parts_of are.d a.0) i ≡ Some r) =
-        part_beside renaming shared other (nodes_of form ss) (nodes_of twin ts) (parts_of are.c a.0) (parts_of are.d a.0) i left.0 are.are.parts left.1
+      part_beside renaming shared other (nodes_of form ss) (nodes_of twin ts) (parts_of are.c a.0) (parts_of are.d a.0) i left.0 are.are.parts left.1
       in
       record { d = are.d; y = (right.0).at; node_is = are.other_is; part_is = place_of_part are.d a.0 i right.0 right.1 }
 
@@ -193,9 +193,9 @@ module _ (renaming : Renaming) (shared other : Shared) (form twin : Form) (ss ts
       let are : Are a.0 p q = nodes_alike renaming shared other (nodes_of form ss) (nodes_of twin ts) a.0 p q a.1 in
       let same : are.d ≡ d = same_Some are.d d (sym are.other_is ∙ g) in
       let right : (r : Part) × (slice_get (parts_of are.d a.0) i ≡ Some r) × (r.at ≡ y) =
-        part_of_place are.d a.0 i y (subst (λ n. slice_get (places_of n) i ≡ Some y) (sym same) h)
+      part_of_place are.d a.0 i y (subst (λ n. slice_get (places_of n) i ≡ Some y) (sym same) h)
       in
       let left : (r : Part) × (slice_get (parts_of are.c a.0) i ≡ Some r) =
-        part_before renaming shared other (nodes_of form ss) (nodes_of twin ts) (parts_of are.c a.0) (parts_of are.d a.0) i right.0 are.are.parts right.1
+      part_before renaming shared other (nodes_of form ss) (nodes_of twin ts) (parts_of are.c a.0) (parts_of are.d a.0) i right.0 are.are.parts right.1
       in
       record { d = are.c; y = (left.0).at; node_is = are.node_is; part_is = place_of_part are.c a.0 i left.0 left.1 }

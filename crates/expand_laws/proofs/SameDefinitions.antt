@@ -1,13 +1,11 @@
 -- Globals and operations of two units whose forms are alike: the same kinds and defaults.
-use Rattle.std.proofs.Common.{◌≡◌, ℕ, zero, suc, ◌+◌, ◌<◌, ◌≤◌, Bool, true, false, cond, List, [], ◌∷◌, length, map, slice_get, count_by, Option, Some, None, IsSomeAnd, inl, inr, ⊎_elim, refl, sym, ap, subst, ◌∙◌, arith}
+use Rattle.std.proofs.Common.{◌≡◌, ℕ, ◌<◌, ◌≤◌, Bool, true, false, List, [], ◌∷◌, map, slice_get, Option, Some, None, IsSomeAnd, ⊎_elim, refl, sym, ap, subst, ◌∙◌}
 use Rattle.std.specs.List.{AllZip}
-use Rattle.std.specs.Option.{option_map, option_map_or}
+use Rattle.std.specs.Option.{option_map}
 use Rattle.std.proofs.lemmas.Bool.{cases_lt}
 use Rattle.std.proofs.lemmas.Bool.Decides.{Decides-eqb}
-use Rattle.std.proofs.lemmas.List.Sums.{sum_by-cons}
 use Rattle.std.proofs.lemmas.Option.{slice_get_within, same_Some}
 use Rattle.t_base.specs.declared.basics.Span.{Span}
-use Rattle.t_base.specs.declared.basics.Var.{Var}
 use Rattle.t_base.specs.declared.shared_parts.Global1.{Global1}
 use Rattle.t_base.specs.declared.shared_parts.GlobalKind.{GlobalKind}
 use Rattle.t_base.specs.declared.shared_parts.GlobalKind.TheVariants.{Proc, Value, Variable}
@@ -15,80 +13,17 @@ use Rattle.t_base.specs.declared.shared_parts.OpInfo.{OpInfo}
 use Rattle.t_base.specs.declared.shared_parts.Shared.{Shared}
 use Rattle.t_prim.specs.SharedParts.{builtin_ops}
 use Rattle.t_core.specs.declared.forms.Core.{Core}
-use Rattle.t_core.specs.declared.forms.Core.TheVariants as Node
 use Rattle.t_core.specs.declared.forms.Form.{Form}
 use Rattle.t_core.specs.declared.forms.FormKind.{FormKind}
 use Rattle.t_core.specs.declared.forms.FormKind.TheVariants.{Define, Lset, Operation, Plain}
 use Rattle.t_core.specs.declared.forms.UnitCore.{UnitCore}
-use Rattle.t_core.specs.Nodes.{is_lambda}
 use Rattle.t_core.specs.Whole.{is_lambda_at, DefinesAs, IsDefault, IsDefinition, defines_global, defines_op, IsWhole}
-use Rattle.expand_laws.specs.Renaming.{Renaming, IsSameNode, Alike, alike, RootsAlike, FormsAlike, IsSameGlobal, IsSameOp, nodes_of}
+use Rattle.expand_laws.specs.Renaming.{Renaming, FormsAlike, IsSameGlobal, IsSameOp}
 use Rattle.expand_laws.proofs.Collecting.{zip_each}
 use Rattle.expand_laws.proofs.CountedOnce.{IsThere, counted_there}
+use Rattle.expand_laws.proofs.FormsBeside.{FormBeside, form_beside}
 use Rattle.expand_laws.proofs.Paired.{all_at}
-
--- ---- roots
-
-lambda_same : (shared other : Shared) (related : Var → Var → Type 0) (c d : Core) → IsSameNode shared other related c d → is_lambda c ≡ is_lambda d
-lambda_same shared other related (Node.Const a) (Node.Const b) h = refl
-lambda_same shared other related (Node.Local a) (Node.Local b) h = refl
-lambda_same shared other related (Node.Global a) (Node.Global b) h = refl
-lambda_same shared other related (Node.Builtin a) (Node.Builtin b) h = refl
-lambda_same shared other related (Node.Op a) (Node.Op b) h = refl
-lambda_same shared other related (Node.Lambda a b) (Node.Lambda c d) h = refl
-lambda_same shared other related (Node.If a b c) (Node.If d e f) h = refl
-lambda_same shared other related (Node.Block a) (Node.Block b) h = refl
-lambda_same shared other related (Node.Let a b c) (Node.Let d e f) h = refl
-lambda_same shared other related (Node.Labels a b c) (Node.Labels d e f) h = refl
-lambda_same shared other related (Node.SetLocal a b) (Node.SetLocal c d) h = refl
-lambda_same shared other related (Node.SetGlobal a b) (Node.SetGlobal c d) h = refl
-lambda_same shared other related (Node.Catch a b) (Node.Catch c d) h = refl
-lambda_same shared other related (Node.Object a b) (Node.Object c d) h = refl
-lambda_same shared other related (Node.Call a b c) (Node.Call d e f) h = refl
-lambda_same shared other related (Node.Prim a b) (Node.Prim c d) h = refl
-lambda_same shared other related _ _ h = absurd h
-
--- what is known of the roots of two forms that are alike
-record SameRoots (nodes others : List Core) (root top : ℕ) : Type 0 where
-  lambdas : is_lambda_at nodes root ≡ is_lambda_at others top
-  some : 0 < length nodes → 0 < length others
-  all : 0 < length others → 0 < length nodes
-
-roots_from_nodes : (renaming : Renaming) (shared other : Shared) (form twin : Form) (ss ts : List Span) (tail : Bool) (k j : ℕ)
-    → Alike renaming shared other (nodes_of form ss) (nodes_of twin ts) tail k j → SameRoots form.nodes.items twin.nodes.items k j
-roots_from_nodes renaming shared other form twin ss ts tail k j (alike t kk jj c d s g h p q same parts) = record {
-  lambdas = ap (λ o. option_map_or is_lambda o false) g ∙ lambda_same shared other _ c d same ∙ ap (λ o. option_map_or is_lambda o false) (sym h);
-  some = λ _. let there : jj < length twin.nodes.items = slice_get_within twin.nodes.items jj d h in omega arith;
-  all = λ _. let there : kk < length form.nodes.items = slice_get_within form.nodes.items kk c g in omega arith;
-}
-
-none_here : (nodes : List Core) → nodes ≡ [] → 0 < length nodes → ⊥
-none_here nodes e some = let f : length nodes ≡ 0 = ap length e in absurd (omega arith)
-
-same_roots : (renaming : Renaming) (shared other : Shared) (form twin : Form) (ss ts : List Span) → RootsAlike renaming shared other form ss twin ts
-    → SameRoots form.nodes.items twin.nodes.items form.root twin.root
-same_roots renaming shared other form twin ss ts (inl none) = record {
-  lambdas = ap (λ nodes. is_lambda_at nodes form.root) none.0 ∙ ap (λ nodes. is_lambda_at nodes twin.root) (sym none.1);
-  some = λ some. absurd (none_here form.nodes.items none.0 some);
-  all = λ some. absurd (none_here twin.nodes.items none.1 some);
-}
-same_roots renaming shared other form twin ss ts (inr a) = roots_from_nodes renaming shared other form twin ss ts false form.root twin.root a
-
--- two forms at one place
-record SameForms (form twin : Form) : Type 0 where
-  kinds : form.kind ≡ twin.kind
-  roots : SameRoots form.nodes.items twin.nodes.items form.root twin.root
-
-form_beside : (renaming : Renaming) (shared other : Shared) (forms : List Form) (sss : List (List Span)) (twins : List Form) (tss : List (List Span)) (i : ℕ) (form : Form)
-    → FormsAlike renaming shared other forms sss twins tss → slice_get forms i ≡ Some form → (twin : Form) × (slice_get twins i ≡ Some twin) × SameForms form twin
-form_beside renaming shared other [] sss twins tss i form h is = cc
-form_beside renaming shared other (f ∷ forms) [] twins tss i form h is = absurd h
-form_beside renaming shared other (f ∷ forms) (s ∷ sss) [] tss i form h is = absurd h
-form_beside renaming shared other (f ∷ forms) (s ∷ sss) (g ∷ twins) [] i form h is = absurd h
-form_beside renaming shared other (f ∷ forms) (s ∷ sss) (g ∷ twins) (t ∷ tss) zero form h is =
-    (g, refl, subst (λ x. SameForms x g) (same_Some f form is) (record { kinds = h.0; roots = same_roots renaming shared other f g s t h.1 }))
-form_beside renaming shared other (f ∷ forms) (s ∷ sss) (g ∷ twins) (t ∷ tss) (suc i) form h is =
-    form_beside renaming shared other forms sss twins tss i form h.2 is
+use Rattle.expand_laws.proofs.Roots.{SameRoots, same_roots, none_here}
 
 -- ---- globals
 
@@ -162,18 +97,20 @@ module _ (unit other : UnitCore) (whole : IsWhole unit) (also : IsWhole other) (
   pub same_global : (g : ℕ) (a b : Global1) → slice_get unit.shared.globals.items g ≡ Some a → slice_get other.shared.globals.items g ≡ Some b → a.kind ≡ b.kind
   same_global g a b p q =
       let there : IsThere (λ (form : Form). defines_global g form.kind) unit.forms.items =
-        counted_there (λ (form : Form). defines_global g form.kind) unit.forms.items
-        (whole.definitions.globals_once g (slice_get_within unit.shared.globals.items g a p))
+      counted_there (λ (form : Form). defines_global g form.kind) unit.forms.items
+      (whole.definitions.globals_once g (slice_get_within unit.shared.globals.items g a p))
       in
       let form : Form = there.x in
-      let beside : (twin : Form) × (slice_get other.forms.items there.i ≡ Some twin) × SameForms form twin =
-        form_beside renaming unit.shared other.shared unit.forms.items spans other.forms.items others there.i form forms there.found
+      let beside : FormBeside renaming unit.shared other.shared other.forms.items there.i form =
+      form_beside renaming unit.shared other.shared unit.forms.items spans other.forms.items others there.i form forms there.found
       in
-      let twin : Form = beside.0 in
-      let same : SameForms form twin = beside.2 in
+      let twin : Form = beside.twin in
+      let same : SameRoots form.nodes.items twin.nodes.items form.root twin.root =
+      same_roots renaming unit.shared other.shared form twin beside.ss beside.ts beside.roots
+      in
       global_kind unit.shared other.shared g form.kind form.nodes.items twin.nodes.items form.root twin.root a b p q there.passes
       (definition_at unit whole there.i form there.found)
-      (subst (λ k. IsDefinition other.shared k twin.nodes.items twin.root) (sym same.kinds) (definition_at other also there.i twin beside.1)) same.roots.lambdas
+      (subst (λ k. IsDefinition other.shared k twin.nodes.items twin.root) (sym beside.kinds) (definition_at other also there.i twin beside.found)) same.lambdas
 
   builtin_default : (at : UnitCore) → IsWhole at → (o : ℕ) (a : OpInfo) → o < builtin_ops → slice_get at.shared.ops.items o ≡ Some a → a.default ≡ false
   builtin_default at w o a below is =
@@ -182,18 +119,20 @@ module _ (unit other : UnitCore) (whole : IsWhole unit) (also : IsWhole other) (
   unit_op : (o : ℕ) (a b : OpInfo) → slice_get unit.shared.ops.items o ≡ Some a → slice_get other.shared.ops.items o ≡ Some b → builtin_ops ≤ o → a.default ≡ b.default
   unit_op o a b p q above =
       let there : IsThere (λ (form : Form). defines_op o form.kind) unit.forms.items =
-        counted_there (λ (form : Form). defines_op o form.kind) unit.forms.items
-        (whole.definitions.ops_once o above (slice_get_within unit.shared.ops.items o a p))
+      counted_there (λ (form : Form). defines_op o form.kind) unit.forms.items
+      (whole.definitions.ops_once o above (slice_get_within unit.shared.ops.items o a p))
       in
       let form : Form = there.x in
-      let beside : (twin : Form) × (slice_get other.forms.items there.i ≡ Some twin) × SameForms form twin =
-        form_beside renaming unit.shared other.shared unit.forms.items spans other.forms.items others there.i form forms there.found
+      let beside : FormBeside renaming unit.shared other.shared other.forms.items there.i form =
+      form_beside renaming unit.shared other.shared unit.forms.items spans other.forms.items others there.i form forms there.found
       in
-      let twin : Form = beside.0 in
-      let same : SameForms form twin = beside.2 in
+      let twin : Form = beside.twin in
+      let same : SameRoots form.nodes.items twin.nodes.items form.root twin.root =
+      same_roots renaming unit.shared other.shared form twin beside.ss beside.ts beside.roots
+      in
       op_default unit.shared other.shared o form.kind form.nodes.items twin.nodes.items form.root twin.root a b p q there.passes
       (definition_at unit whole there.i form there.found)
-      (subst (λ k. IsDefinition other.shared k twin.nodes.items twin.root) (sym same.kinds) (definition_at other also there.i twin beside.1)) same.roots
+      (subst (λ k. IsDefinition other.shared k twin.nodes.items twin.root) (sym beside.kinds) (definition_at other also there.i twin beside.found)) same
 
   pub same_op : (o : ℕ) (a b : OpInfo) → slice_get unit.shared.ops.items o ≡ Some a → slice_get other.shared.ops.items o ≡ Some b → a.default ≡ b.default
   same_op o a b p q =

@@ -18,13 +18,15 @@ use Rattle.t_forms.specs.Data.{Datum, Name, span_of}
 use Rattle.t_forms.specs.Names.{Scope, within}
 use Rattle.t_rows.specs.Rows.{stands_for, node, Shape, lambda, Part, inside, row}
 use Rattle.t_expand.specs.Meaning.{Fits, Nodes, Means, as_form, as_node, AllMean, no_parts, one_part}
+use Rattle.expand_laws.proofs.ReachedCosts.{shape_cost}
+use Rattle.expand_laws.proofs.Few.{IsFew, few_none, few_both, few_counted}
 use Rattle.expand_laws.proofs.Gaining.{Gains, gains_none, gains_both, gains_swapped, stock_before}
 use Rattle.expand_laws.proofs.Made.{Stock, HasStock, HasDefined}
 use Rattle.expand_laws.proofs.Placing.{Sits, sits_front, sits_back, sits_last, Seat, placed, places_by_parts, Grown, grown_none, grown_more, grown_node}
 use Rattle.expand_laws.proofs.Reached.{IsLambdaForm}
 
--- the nodes of a form in the scope where the local names mean these variables, from the start on
-pub record Segment (names : List (List ℕ)) (vars : List Var) (scope : Scope) (d : Datum) (tail : Bool) (start : ℕ) (before : Stock) : Type 0 where
+-- the nodes of a form in the scope where the local names mean these variables, from the start on, with a bound on what is made
+pub record Segment (names : List (List ℕ)) (vars : List Var) (scope : Scope) (d : Datum) (tail : Bool) (start : ℕ) (before : Stock) (bound : ℕ) : Type 0 where
   pub nodes : List Core
   pub spans : List Span
   pub root : ℕ
@@ -33,6 +35,7 @@ pub record Segment (names : List (List ℕ)) (vars : List Var) (scope : Scope) (
   pub grown : Grown start nodes (root ∷ [])
   pub spans_are : length spans ≡ length nodes
   pub some : 0 < length nodes
+  pub few : IsFew before after (length nodes) bound
   pub means : (shared : Shared) (n : Nodes) → HasStock names after shared → Sits start nodes n.nodes → Sits start spans n.spans → Means shared n vars scope d tail root
   pub scoped : (all : List Core) → Sits start nodes all → (depth : ℕ) → length nodes ≤ depth → IsScopedWithin all depth vars tail root
   pub shaped : (shared : Shared) (all : List Core) → HasDefined scope.defined shared → Sits start nodes all → All (IsNodeShaped shared all) nodes
@@ -52,7 +55,7 @@ abbrev pub AreSeated : List Part → List Seat → Type 0
 AreSeated parts seats = AllZip (λ p s. length p.binds ≡ length s.binds) parts seats
 
 -- the nodes of parts, one behind the other
-pub record Segments (names : List (List ℕ)) (vars : List Var) (scope : Scope) (parts : List Part) (seats : List Seat) (start : ℕ) (before : Stock) : Type 0 where
+pub record Segments (names : List (List ℕ)) (vars : List Var) (scope : Scope) (parts : List Part) (seats : List Seat) (start : ℕ) (before : Stock) (bound : ℕ) : Type 0 where
   pub nodes : List Core
   pub spans : List Span
   pub places : List ℕ
@@ -61,6 +64,7 @@ pub record Segments (names : List (List ℕ)) (vars : List Var) (scope : Scope) 
   pub gains : Gains names before after nodes
   pub grown : Grown start nodes places
   pub spans_are : length spans ≡ length nodes
+  pub few : IsFew before after (length nodes) bound
   pub means : (shared : Shared) (n : Nodes) → HasStock names after shared → Sits start nodes n.nodes → Sits start spans n.spans
       → AllMean shared n vars scope parts (placed seats places)
   pub scoped : (all : List Core) → Sits start nodes all → (depth : ℕ) → length nodes ≤ depth
@@ -69,7 +73,7 @@ pub record Segments (names : List (List ℕ)) (vars : List Var) (scope : Scope) 
   pub named : (shared : Shared) → HasStock names after shared → HasDefined scope.defined shared → All (NamesAreThere shared) nodes
   pub lambdas : (all : List Core) → Sits start nodes all → AreLambdas all parts places
 
-pub no_segments : (names : List (List ℕ)) (vars : List Var) (scope : Scope) (start : ℕ) (s : Stock) → Segments names vars scope [] [] start s
+pub no_segments : (names : List (List ℕ)) (vars : List Var) (scope : Scope) (start : ℕ) (s : Stock) → Segments names vars scope [] [] start s 0
 no_segments names vars scope start s = record {
   nodes = [];
   spans = [];
@@ -79,6 +83,7 @@ no_segments names vars scope start s = record {
   gains = gains_none names s;
   grown = grown_none start;
   spans_are = refl;
+  few = few_none s 0;
   means = λ shared n h i j. no_parts vars scope;
   scoped = λ all h depth le. tt;
   shaped = λ shared all h i. All-nil (IsNodeShaped shared all);
@@ -87,9 +92,9 @@ no_segments names vars scope start s = record {
 }
 
 pub more_segments : (names : List (List ℕ)) (vars : List Var) (scope : Scope) (p : Part) (s : Seat) (ps : List Part) (seats : List Seat) (start : ℕ) (before : Stock)
-    → length p.binds ≡ length s.binds → (x : Segment names (s.binds ++ vars) (within scope p.binds) p.form s.tail start before)
-    → Segments names vars scope ps seats (start + length x.nodes) x.after → Segments names vars scope (p ∷ ps) (s ∷ seats) start before
-more_segments names vars scope p s ps seats start before binds x y =
+    (m n : ℕ) → length p.binds ≡ length s.binds → (x : Segment names (s.binds ++ vars) (within scope p.binds) p.form s.tail start before m)
+    → Segments names vars scope ps seats (start + length x.nodes) x.after n → Segments names vars scope (p ∷ ps) (s ∷ seats) start before (m + n)
+more_segments names vars scope p s ps seats start before m n binds x y =
     let count : length (x.nodes ++ y.nodes) ≡ length x.nodes + length y.nodes = length-append x.nodes y.nodes in
     record {
       nodes = x.nodes ++ y.nodes;
@@ -100,6 +105,8 @@ more_segments names vars scope p s ps seats start before binds x y =
       gains = gains_both names before x.after y.after x.nodes y.nodes x.gains y.gains;
       grown = grown_more start x.nodes y.nodes x.root y.places x.grown y.grown;
       spans_are = omega (arith, length-append x.spans y.spans, count, x.spans_are, y.spans_are);
+      few = few_counted before y.after (length x.nodes + length y.nodes) (length (x.nodes ++ y.nodes)) (m + n) count
+          (few_both before x.after y.after (length x.nodes) (length y.nodes) m n x.few y.few);
       means = λ shared n h i j.
           one_part vars scope p _ ps _ binds
           (x.means shared n (stock_before names x.after y.after y.nodes shared y.gains h) (sits_front start x.nodes y.nodes n.nodes i) (sits_front start x.spans y.spans n.spans j))
@@ -119,6 +126,7 @@ pub record Choice (names : List (List ℕ)) (vars : List Var) (scope : Scope) (t
   pub seats : List Seat
   pub seated : AreSeated parts seats
   pub after : Stock
+  pub few : IsFew before after 1 (shape_cost shape)
   pub core : List ℕ → Core
   pub gains : (ks : List ℕ) → length ks ≡ length seats → Gains names before after (core ks ∷ [])
   pub parts_are : (ks : List ℕ) → length ks ≡ length seats → parts_of (core ks) tail ≡ placed seats ks
@@ -149,9 +157,9 @@ same_shape : {a b : Shape} {xs ys : List Part} → node a [] xs ≡ node b [] ys
 same_shape e = (cc, cc)
 
 pub node_segment : (names : List (List ℕ)) (vars : List Var) (scope : Scope) (d : Datum) (tail : Bool) (start : ℕ) (before : Stock) (shape : Shape) (parts : List Part)
-    → row scope d ≡ node shape [] parts → (c : Choice names vars scope tail shape parts before) → Segments names vars scope parts c.seats start c.after
-    → Segment names vars scope d tail start before
-node_segment names vars scope d tail start before shape parts is c x =
+    (n : ℕ) → row scope d ≡ node shape [] parts → (c : Choice names vars scope tail shape parts before) → Segments names vars scope parts c.seats start c.after n
+    → Segment names vars scope d tail start before (shape_cost shape + n)
+node_segment names vars scope d tail start before shape parts n is c x =
     let core : Core = c.core x.places in
     let count : length (x.nodes ++ core ∷ []) ≡ suc (length x.nodes) = length-append x.nodes (core ∷ []) ∙ omega arith in
     record {
@@ -163,6 +171,8 @@ node_segment names vars scope d tail start before shape parts is c x =
       grown = grown_node start x.nodes core x.places (places_by_parts core tail c.seats x.places x.count (c.parts_are x.places x.count)) x.grown;
       spans_are = omega (arith, length-append x.spans (span_of d ∷ []), count, x.spans_are);
       some = omega (arith, count);
+      few = few_counted before x.after (1 + length x.nodes) (length (x.nodes ++ core ∷ [])) (shape_cost shape + n) (omega (arith, count))
+          (few_both before c.after x.after 1 (length x.nodes) (shape_cost shape) n c.few x.few);
       means = λ shared n h i j.
           as_node vars scope d tail (start + length x.nodes) shape parts core is (sits_last start x.nodes core n.nodes i)
           (subst (λ k. slice_get n.spans (start + k) ≡ Some (span_of d)) x.spans_are (sits_last start x.spans (span_of d) n.spans j))
@@ -171,8 +181,8 @@ node_segment names vars scope d tail start before shape parts is c x =
           (x.means shared n h (sits_front start x.nodes (core ∷ []) n.nodes i) (sits_front start x.spans (span_of d ∷ []) n.spans j)));
       scoped = λ all h depth le.
           scoped_deep all vars tail (start + length x.nodes) (length x.nodes) core (sits_last start x.nodes core all h) (c.in_place x.places)
-          (λ n m. subst (λ qs. AllByRecursion (λ (p : NodePart). IsScopedWithin all n (p.binds ++ vars) p.tail p.at) qs) (sym (c.parts_are x.places x.count))
-          (x.scoped all (sits_front start x.nodes (core ∷ []) all h) n m)) depth (omega (arith, count));
+          (λ k m. subst (λ qs. AllByRecursion (λ (p : NodePart). IsScopedWithin all k (p.binds ++ vars) p.tail p.at) qs) (sym (c.parts_are x.places x.count))
+          (x.scoped all (sits_front start x.nodes (core ∷ []) all h) k m)) depth (omega (arith, count));
       shaped = λ shared all h i. All-append (IsNodeShaped shared all) x.nodes (core ∷ []) (x.shaped shared all h (sits_front start x.nodes (core ∷ []) all i))
           (All-cons (IsNodeShaped shared all) core []
           (c.shaped x.places x.count shared all h (x.lambdas all (sits_front start x.nodes (core ∷ []) all i))) (All-nil (IsNodeShaped shared all)));
@@ -187,9 +197,9 @@ node_segment names vars scope d tail start before shape parts is c x =
     }
 
 -- what stands for another form has the nodes of that
-pub form_segment : (names : List (List ℕ)) (vars : List Var) (scope : Scope) (d e : Datum) (tail : Bool) (start : ℕ) (before : Stock) → row scope d ≡ stands_for e
-    → Segment names vars scope e tail start before → Segment names vars scope d tail start before
-form_segment names vars scope d e tail start before is x = record {
+pub form_segment : (names : List (List ℕ)) (vars : List Var) (scope : Scope) (d e : Datum) (tail : Bool) (start : ℕ) (before : Stock) (n : ℕ) → row scope d ≡ stands_for e
+    → Segment names vars scope e tail start before n → Segment names vars scope d tail start before n
+form_segment names vars scope d e tail start before n is x = record {
   nodes = x.nodes;
   spans = x.spans;
   root = x.root;
@@ -198,6 +208,7 @@ form_segment names vars scope d e tail start before is x = record {
   grown = x.grown;
   spans_are = x.spans_are;
   some = x.some;
+  few = x.few;
   means = λ shared n h i j. as_form vars scope d e tail x.root is (x.means shared n h i j);
   scoped = x.scoped;
   shaped = x.shaped;

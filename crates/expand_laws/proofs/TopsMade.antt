@@ -80,9 +80,9 @@ pub record TopMade (names : List (List ℕ)) (defined : List Bound) (t : Top) (b
   pub ascii : All (λ bytes. All (λ b. b < 128) bytes) new_strings
   pub pairs_right : (shared : Shared) → HasStock names after shared → All (λ p. IsConst shared p.0 × IsConst shared p.1) new_pairs
   pub lower : HasLowerParts before.pairs → HasLowerParts after.pairs
-  pub few_nodes : length nodes ≤ 2 ^ 30 * top_size t
-  pub few_strings : length new_strings ≤ 2 ^ 30 * top_size t
-  pub few_pairs : length new_pairs ≤ 2 ^ 30 * top_size t
+  pub few_nodes : length nodes ≤ 2 ^ 31 * top_size t
+  pub few_strings : length new_strings ≤ 2 ^ 31 * top_size t
+  pub few_pairs : length new_pairs ≤ 2 ^ 31 * top_size t
 
 -- ---- all forms
 
@@ -134,5 +134,5 @@ pub record AllMade (names : List (List ℕ)) (defined : List Bound) (ts : List T
   pub pairs_right : (shared : Shared) → HasStock names after shared → All (λ p. IsConst shared p.0 × IsConst shared p.1) new_pairs
   pub lower : HasLowerParts before.pairs → HasLowerParts after.pairs
   pub few_forms : length forms ≡ length ts
-  pub few_strings : length new_strings ≤ 2 ^ 30 * tops_size ts
-  pub few_pairs : length new_pairs ≤ 2 ^ 30 * tops_size ts
+  pub few_strings : length new_strings ≤ 2 ^ 31 * tops_size ts
+  pub few_pairs : length new_pairs ≤ 2 ^ 31 * tops_size ts

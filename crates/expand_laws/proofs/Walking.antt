@@ -96,7 +96,7 @@ module _ (form twin : Form) (ss ts : List Span) (shared other : Shared) where
         at_parts k j i q.at r.at c d both g h (place_of_part c tail i q p) (place_of_part d tail i r o),
         s.0,
         zip_weaker (Beside (binders_of c) (binders_of d)) (BoundIn form twin)
-        (λ v w b. record { k = k; j = j; i = b.i; c = c; d = d; paired = both; node_is = g; other_is = h; left = b.left; right = b.right }) q.binds r.binds s.1,
+            (λ v w b. record { k = k; j = j; i = b.i; c = c; d = d; paired = both; node_is = g; other_is = h; left = b.left; right = b.right }) q.binds r.binds s.1,
       ))
       beside
 
@@ -109,9 +109,9 @@ module _ (form twin : Form) (ss ts : List Span) (shared other : Shared) where
     pairs = all.pairs;
     each = all.each;
     same = λ renaming includes related.
-      alike tail k j c d (span_of e) g h p q
-      (same_node shared other vars others tail (Renames renaming) (λ i v w a b. zip_got (Renames renaming) vars others i v w related a b) shape c d f o)
-      (all.same renaming includes related);
+        alike tail k j c d (span_of e) g h p q
+        (same_node shared other vars others tail (Renames renaming) (λ i v w a b. zip_got (Renames renaming) vars others i v w related a b) shape c d f o)
+        (all.same renaming includes related);
   }
 
   beside_of : (vars others : List Var) (scope : Scope) (tail : Bool) (shape : Shape) (parts : List RowPart) (c d : Core) → Fits shared vars tail shape c
@@ -141,7 +141,7 @@ module _ (form twin : Form) (ss ts : List Span) (shared other : Shared) where
         let twin_node : IsNode other (nodes_of twin ts) others sc dd t j shape parts = as_its_node other (nodes_of twin ts) others sc dd t j shape parts at right in
         node_walked vs others sc dd t kk j shape c twin_node.c here twin_node.here span twin_node.span f twin_node.fits
         (all_walked vs others sc parts (parts_of c t) (parts_of twin_node.c t) all twin_node.all
-         (paired_parts kk j c twin_node.c t both here twin_node.here (beside_of vs others sc t shape parts c twin_node.c f twin_node.fits all twin_node.all)))
+        (paired_parts kk j c twin_node.c t both here twin_node.here (beside_of vs others sc t shape parts c twin_node.c f twin_node.fits all twin_node.all)))
 
     pub all_walked : (vars others : List Var) (scope : Scope) (ps : List RowPart) (qs rs : List Part) → AllMean shared (nodes_of form ss) vars scope ps qs
         → AllMean other (nodes_of twin ts) others scope ps rs → AllZip (PartsPaired form twin) qs rs → AllWalked form twin ss ts shared other vars others qs rs
@@ -149,5 +149,5 @@ module _ (form twin : Form) (ss ts : List Span) (shared other : Shared) where
     all_walked vars others scope ps qs rs (one_part vs sc p q pps qqs l m rest) right paired =
         part_walked vs others sc p q pps qqs rs
         (λ r mean both e. walked (q.binds ++ vs) (r.binds ++ others) (within sc p.binds) p.form q.tail q.at r.at m
-         (subst (λ t. Right (r.binds ++ others) (within sc p.binds) p.form t r.at) (sym e) mean) both)
+        (subst (λ t. Right (r.binds ++ others) (within sc p.binds) p.form t r.at) (sym e) mean) both)
         (λ os more pairs. all_walked vs others sc pps qqs os rest more pairs) right paired

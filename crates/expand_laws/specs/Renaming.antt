@@ -1,5 +1,5 @@
--- What it is for two units to be the same up to the variables' numbers, the order of a form's nodes, and the places of names, strings
--- and pairs.
+-- What it is for two units to be the same up to a renaming of their variables. This much is left free: the variables' numbers, the order
+-- of a form's nodes, the places of names, strings and pairs, and such of them as nothing names.
 use Rattle.std.specs.Prelude.{◌≡◌, ◌⊎◌, ℕ, ℤ, Bool, false, List, [], ◌∷◌, map, slice_get, Contains, Some}
 use Rattle.std.specs.List.{AllZip}
 use Rattle.t_base.specs.declared.basics.Name.{Name}
@@ -15,6 +15,7 @@ use Rattle.t_core.specs.declared.forms.Core.TheVariants as Node
 use Rattle.t_core.specs.declared.forms.Form.{Form}
 use Rattle.t_core.specs.declared.forms.UnitCore.{UnitCore}
 use Rattle.t_core.specs.Nodes.{Part, parts_of}
+use Rattle.t_core.specs.Whole.{binders}
 use Rattle.t_expand.specs.Meaning.{Nodes}
 
 -- ---- renamings
@@ -26,10 +27,13 @@ Renaming = List (Var × Var)
 abbrev pub Renames : Renaming → Var → Var → Type 0
 Renames renaming v w = Contains renaming (v, w)
 
--- one variable has one other, and different variables have different others
-abbrev pub IsOneToOne : Renaming → Type 0
-IsOneToOne renaming =
-    (p q : Var × Var) → Contains renaming p → Contains renaming q → (p.0 ≡ q.0 → p.1 ≡ q.1) × (p.1 ≡ q.1 → p.0 ≡ q.0)
+-- Each of these variables has one of the others, each of which is had by one of these.
+pub record IsOneToOne (renaming : Renaming) (vars others : List Var) : Type 0 where
+  pub within : (v w : Var) → Renames renaming v w → Contains vars v × Contains others w
+  pub each : (v : Var) → Contains vars v → (w : Var) × Renames renaming v w
+  pub every : (w : Var) → Contains others w → (v : Var) × Renames renaming v w
+  pub one : (v w x : Var) → Renames renaming v w → Renames renaming v x → w ≡ x
+  pub apart : (v w x : Var) → Renames renaming v x → Renames renaming w x → v ≡ w
 
 -- ---- constants
 
@@ -86,10 +90,10 @@ mutual
 abbrev pub nodes_of : Form → List Span → Nodes
 nodes_of form spans = record { nodes = form.nodes.items; spans = spans }
 
--- neither form has nodes, or their roots are alike
+-- neither form has nodes, and one number is the root of both, or their roots are alike
 abbrev pub RootsAlike : Renaming → Shared → Shared → Form → List Span → Form → List Span → Type 0
 RootsAlike renaming shared other f spans g others =
-    ((f.nodes.items ≡ []) × (g.nodes.items ≡ [])) ⊎ Alike renaming shared other (nodes_of f spans) (nodes_of g others) false f.root g.root
+    ((f.nodes.items ≡ []) × (g.nodes.items ≡ []) × (f.root ≡ g.root)) ⊎ Alike renaming shared other (nodes_of f spans) (nodes_of g others) false f.root g.root
 
 abbrev pub FormsAlike : Renaming → Shared → Shared → List Form → List (List Span) → List Form → List (List Span) → Type 0
 FormsAlike renaming shared other [] [] [] [] = Unit {0}
@@ -105,10 +109,11 @@ IsSameGlobal shared other g h = (g.kind ≡ h.kind) × (slice_get shared.names g
 abbrev pub IsSameOp : Shared → Shared → OpInfo → OpInfo → Type 0
 IsSameOp shared other o p = (o.default ≡ p.default) × (slice_get shared.names o.name.0 ≡ slice_get other.names p.name.0)
 
--- one unit is the other up to a one-to-one renaming of its variables
+-- one unit is the other up to a one-to-one renaming of the variables
 pub record IsRenamed (unit : UnitCore) (spans : List (List Span)) (other : UnitCore) (others : List (List Span)) : Type 0 where
   pub renaming : Renaming
-  pub one_to_one : IsOneToOne renaming
+  pub one_to_one : IsOneToOne renaming (binders unit) (binders other)
   pub forms : FormsAlike renaming unit.shared other.shared unit.forms.items spans other.forms.items others
   pub globals : AllZip (IsSameGlobal unit.shared other.shared) unit.shared.globals.items other.shared.globals.items
   pub ops : AllZip (IsSameOp unit.shared other.shared) unit.shared.ops.items other.shared.ops.items
+  pub size : unit.shared.size ≡ other.shared.size
