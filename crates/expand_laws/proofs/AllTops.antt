@@ -1,9 +1,9 @@
 -- All forms at top level, made one after another.
-use Rattle.std.proofs.Common.{◌≡◌, ℕ, suc, zero, ◌+◌, ◌*◌, ◌<◌, ◌≤◌, ◌^◌, ◌++◌, List, [], ◌∷◌, length, Option, Some, None, refl, sym, ap, arith}
+use Rattle.std.proofs.Common.{ℕ, ◌≤◌, ◌^◌, ◌++◌, List, [], ◌∷◌, length, Option, Some, None, arith}
 use Rattle.std.specs.Global.{Global}
 use Rattle.t_forms.specs.Names.{Bound}
 use Rattle.t_forms.specs.Data.{Datum}
-use Rattle.t_rows.specs.Rows.{Definition, define, lset, operation_form}
+use Rattle.t_rows.specs.Rows.{define, lset, operation_form}
 use Rattle.t_expand.specs.Units.{Top, defining, broken, expression}
 use Rattle.expand_laws.proofs.Fineness.{size_some}
 use Rattle.expand_laws.proofs.Joining.{none_made, more_made}

@@ -1,5 +1,5 @@
 -- What the table reaches from a form is no more than is said of its size.
-use Rattle.std.proofs.Common.{ℕ, ◌+◌, ◌≤◌, List, arith}
+use Rattle.std.proofs.Common.{◌+◌, ◌≤◌, List, arith}
 use Rattle.t_reader.specs.Grammar.{Value}
 use Rattle.t_forms.specs.Data.{Datum}
 use Rattle.t_forms.specs.Names.{Scope}

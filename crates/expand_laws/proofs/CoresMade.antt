@@ -5,7 +5,7 @@ use Rattle.t_reader.specs.declared.unit.Unit.{Unit as TextUnit}
 use Rattle.t_reader.specs.Grammar.{Value, Tree}
 use Rattle.t_reader.specs.Unit.{IsWhole, HoldTrees}
 use Rattle.t_forms.specs.Data.{Datum, datum_of}
-use Rattle.t_forms.specs.Names.{Scope, Bound}
+use Rattle.t_forms.specs.Names.{Bound}
 use Rattle.t_rows.specs.declared.refusal.Refusal.{Refusal}
 use Rattle.t_expand.specs.Meaning.{top_scope}
 use Rattle.t_expand.specs.Refusals.{RefusedIn}

@@ -1,16 +1,16 @@
 -- What LET, LET*, LABELS and ITERATE cost, where smaller forms cost no more than is said.
-use Rattle.std.proofs.Common.{◌≡◌, ℕ, suc, ◌+◌, ◌*◌, ◌<◌, ◌≤◌, Bool, true, false, if◌then◌else◌, List, [], ◌∷◌, ◌++◌, map, length, Option, Some, None, refl, sym, ap, subst, ◌∙◌, arith}
+use Rattle.std.proofs.Common.{◌≡◌, ℕ, ◌+◌, ◌<◌, ◌≤◌, Bool, true, false, if◌then◌else◌, List, [], ◌∷◌, map, Some, None, subst, arith}
 use Rattle.std.specs.Prelude.{codes}
 use Rattle.std.specs.Option.{option_map, option_and_then}
 use Rattle.t_base.specs.declared.basics.Span.{Span}
 use Rattle.t_forms.specs.Data.{Datum, atom, cons, items_of, listed, all_of, Binder, binder_of, names}
 use Rattle.t_rows.specs.Rows.{Part, inside, body, word_, binding, Binding, binding_of_items, binders, let_row, let_star_step, let_star_row, lambda_form, procedure_item, is_lambda_word, lambda_item, labels_item, labels_items, labels_node, labels_row, iterate_row}
 use Rattle.expand_laws.proofs.Always.{through, mapped}
-use Rattle.expand_laws.proofs.Costs.{Within, SumWithin, AllWithin, RowWithin, looser, looser_row, formed, sum_looser, sum_append, sum_mapped, sum_each, one_sum, all_found}
+use Rattle.expand_laws.proofs.Costs.{Within, SumWithin, AllWithin, RowWithin, looser, looser_row, formed, sum_append, sum_mapped, sum_each, one_sum, all_found}
 use Rattle.expand_laws.proofs.CostBlocks.{body_within, lambda_form_within}
 use Rattle.expand_laws.proofs.CostLets.{BindingWithin, ValuesWithin, BindingsWithin, bindings_by, bindings_listed, let_within, let_form, iterate_within}
-use Rattle.expand_laws.proofs.Most.{most, most_more, most_sum, most_some, most_beside, worth, worth_total, worth_items, worth_list}
-use Rattle.expand_laws.proofs.Sizes.{size, total, size_listed, size_some, items_size}
+use Rattle.expand_laws.proofs.Most.{most, most_more, most_sum, most_some, most_beside, worth, worth_items, worth_list}
+use Rattle.expand_laws.proofs.Sizes.{size, total, size_listed, items_size}
 
 -- ---- smaller forms
 

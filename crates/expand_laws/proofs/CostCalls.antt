@@ -1,5 +1,5 @@
 -- What calls cost.
-use Rattle.std.proofs.Common.{◌≡◌, ℕ, suc, ◌+◌, ◌*◌, ◌≤◌, ◌==◌, List, [], ◌∷◌, map, length, Option, Some, None, refl, arith}
+use Rattle.std.proofs.Common.{◌≡◌, ℕ, ◌+◌, ◌*◌, ◌==◌, List, [], ◌∷◌, map, length, Option, Some, None, refl, arith}
 use Rattle.t_base.specs.declared.basics.Span.{Span}
 use Rattle.t_base.specs.declared.builtins.Builtin.{Builtin}
 use Rattle.t_base.specs.declared.builtins.Builtin.TheVariants as Builtins
@@ -7,7 +7,7 @@ use Rattle.t_prim.specs.Table.{arity_of}
 use Rattle.t_forms.specs.Data.{builtin, listing, Datum, atom, listed, a_number, a_nil, a_builtin, word_of}
 use Rattle.t_forms.specs.Names.{Meaning, the_builtin, the_listing, Scope}
 use Rattle.t_rows.specs.Rows.{node, primitive, plain, call_node, fold_row, builtin_row, minus_row, builtin_call, list_row, call_meant, meant, call_row}
-use Rattle.expand_laws.proofs.Costs.{Within, AllWithin, RowWithin, by_row, looser, looser_row, row_same, other_form, either_row, plain_parts}
+use Rattle.expand_laws.proofs.Costs.{Within, AllWithin, RowWithin, looser, looser_row, row_same, other_form, either_row, plain_parts}
 use Rattle.expand_laws.proofs.CostBlocks.{atom_within}
 
 call_node_within : (a n : ℕ) (f : Datum) (ds : List Datum) → Within a f → AllWithin n ds → RowWithin (1 + a + n) (call_node f ds)

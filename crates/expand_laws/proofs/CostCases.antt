@@ -1,5 +1,5 @@
 -- What QUOTE, COND and CASE cost, where smaller forms cost no more than is said.
-use Rattle.std.proofs.Common.{◌≡◌, ℕ, suc, ◌+◌, ◌*◌, ◌<◌, ◌≤◌, Bool, true, false, ◌||◌, if◌then◌else◌, List, [], ◌∷◌, length, Option, Some, None, refl, sym, ap, subst, ◌∙◌, arith}
+use Rattle.std.proofs.Common.{◌≡◌, ℕ, ◌+◌, ◌*◌, ◌<◌, ◌≤◌, Bool, true, false, ◌||◌, if◌then◌else◌, List, [], ◌∷◌, length, Option, Some, None, refl, subst, arith}
 use Rattle.std.specs.Prelude.{codes}
 use Rattle.std.specs.List.{list_all}
 use Rattle.std.specs.Option.{option_map}
@@ -12,12 +12,12 @@ use Rattle.t_reader.specs.Grammar.{nil}
 use Rattle.t_forms.specs.Data.{given, variable, builtin, operation, listing, Datum, atom, cons, items_of, listed, a_nil, a_true, a_variable, a_builtin, word_of}
 use Rattle.t_rows.specs.Rows.{stands_for, word_, body, is_else, is_arrow, test_answer, received, cond_plain, cond_clause, cond_row, quote_row, is_key, key_test, case_chosen, case_keys, case_last, case_clauses, case_row}
 use Rattle.expand_laws.proofs.Always.{through, mapped}
-use Rattle.expand_laws.proofs.Costs.{Within, SumWithin, AllWithin, RowWithin, looser, looser_row, word_form, formed, either_row, one_sum, more_sum}
-use Rattle.expand_laws.proofs.CostBinds.{Below, IsSmall, AllSmall, small_within, smalls_within, all_small, all_within, items_small, one_most}
+use Rattle.expand_laws.proofs.Costs.{Within, AllWithin, RowWithin, looser, looser_row, word_form, formed, either_row, one_sum, more_sum}
+use Rattle.expand_laws.proofs.CostBinds.{Below, all_within, one_most}
 use Rattle.expand_laws.proofs.CostBlocks.{atom_within, truth_within, if_form, block_form, body_within}
 use Rattle.expand_laws.proofs.CostCalls.{call_form}
 use Rattle.expand_laws.proofs.CostLets.{BindingWithin, BindingsWithin, pair_binding, bindings_listed, let_form, test_within, or_form}
-use Rattle.expand_laws.proofs.Most.{most, most_more, most_sum, most_three, most_some, most_beside, worth, worth_total, worth_items, worth_list}
+use Rattle.expand_laws.proofs.Most.{most, most_more, most_sum, most_three, most_some, worth, worth_items, worth_list}
 use Rattle.expand_laws.proofs.Sizes.{size, total, size_listed, size_some, items_size}
 
 -- ---- QUOTE

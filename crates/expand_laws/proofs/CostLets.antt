@@ -1,14 +1,13 @@
 -- What LET, OR and ITERATE cost.
-use Rattle.std.proofs.Common.{◌≡◌, ℕ, suc, ◌+◌, ◌*◌, ◌<◌, ◌≤◌, Bool, true, false, if◌then◌else◌, List, [], ◌∷◌, ◌++◌, map, length, Option, Some, None, refl, sym, ap, subst, ◌∙◌, arith}
+use Rattle.std.proofs.Common.{◌≡◌, ℕ, ◌+◌, ◌*◌, ◌≤◌, List, [], ◌∷◌, map, length, Some, refl, sym, subst, ◌∙◌, arith}
 use Rattle.std.specs.Prelude.{codes}
-use Rattle.std.specs.Option.{option_map, option_and_then}
 use Rattle.std.proofs.lemmas.List.{length-map}
 use Rattle.std.proofs.lemmas.Option.{same_Some}
 use Rattle.t_base.specs.declared.basics.Span.{Span}
 use Rattle.t_objects.specs.declared.words.Word.TheVariants as word
 use Rattle.t_forms.specs.declared.arena.New.TheVariants as new
-use Rattle.t_forms.specs.Data.{variable, Datum, atom, cons, items_of, listed, a_variable, all_of, Binder, binder_of, names}
-use Rattle.t_rows.specs.Rows.{Part, plain, inside, body, word_, if_formed, Binding, binding_of, binding_of_items, bindings_of, binders, let_node, let_row, name_datum, iterate_node, iterate_row, test_answer, or_row, lambda_form}
+use Rattle.t_forms.specs.Data.{variable, Datum, items_of, listed, a_variable, all_of, Binder, binder_of, names}
+use Rattle.t_rows.specs.Rows.{Part, plain, inside, body, word_, if_formed, Binding, binding_of, bindings_of, binders, let_node, let_row, name_datum, iterate_node, iterate_row, test_answer, or_row}
 use Rattle.expand_laws.proofs.Always.{through, mapped}
 use Rattle.expand_laws.proofs.Costs.{Within, SumWithin, AllWithin, RowWithin, looser, looser_row, word_form, formed, sum_append, sum_mapped, one_sum, all_found}
 use Rattle.expand_laws.proofs.CostBlocks.{atom_within, if_form, body_within, lambda_form_within}

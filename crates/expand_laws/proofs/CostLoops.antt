@@ -1,5 +1,5 @@
 -- What DO costs, where smaller forms cost no more than is said.
-use Rattle.std.proofs.Common.{◌≡◌, ℕ, suc, ◌+◌, ◌*◌, ◌<◌, ◌≤◌, List, [], ◌∷◌, ◌++◌, map, length, Option, Some, refl, sym, ap, subst, ◌∙◌, arith}
+use Rattle.std.proofs.Common.{◌≡◌, ℕ, ◌+◌, ◌*◌, ◌<◌, ◌≤◌, List, [], ◌∷◌, ◌++◌, map, length, Some, refl, subst, arith}
 use Rattle.std.specs.Prelude.{codes}
 use Rattle.std.specs.Option.{option_and_then}
 use Rattle.std.proofs.lemmas.List.{length-map}
@@ -12,11 +12,11 @@ use Rattle.t_forms.specs.Data.{given, variable, Datum, items_of, listed, a_varia
 use Rattle.t_rows.specs.Rows.{word_, Step, step_of_items, steps_of, result_of, do_form, do_step, do_row, if_formed}
 use Rattle.expand_laws.proofs.Always.{through}
 use Rattle.expand_laws.proofs.Costs.{Within, SumWithin, AllWithin, RowWithin, looser, looser_row, word_form, formed, sum_append, sum_mapped, sum_each, one_sum, all_found}
-use Rattle.expand_laws.proofs.CostBinds.{Below, IsSmall, AllSmall, all_within, items_small, one_most}
+use Rattle.expand_laws.proofs.CostBinds.{Below, IsSmall, all_within, items_small, one_most}
 use Rattle.expand_laws.proofs.CostBlocks.{atom_within, if_form, block_form}
 use Rattle.expand_laws.proofs.CostCalls.{call_form}
 use Rattle.expand_laws.proofs.CostLets.{BindingWithin, BindingsWithin, pair_binding, bindings_listed, iterate_within}
-use Rattle.expand_laws.proofs.Most.{most, most_more, most_sum, most_some, most_beside, worth, worth_items, worth_list}
+use Rattle.expand_laws.proofs.Most.{most, most_more, most_sum, worth, worth_items, worth_list}
 use Rattle.expand_laws.proofs.Sizes.{size, total, items_size}
 
 -- what the parts of a step cost that are evaluated

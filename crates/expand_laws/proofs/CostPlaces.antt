@@ -1,5 +1,5 @@
 -- What LOCATIVE costs, where smaller forms cost no more than is said.
-use Rattle.std.proofs.Common.{◌≡◌, ℕ, zero, suc, ◌+◌, ◌*◌, ◌<◌, ◌≤◌, List, [], ◌∷◌, length, Option, Some, None, refl, sym, ap, subst, ◌∙◌, arith}
+use Rattle.std.proofs.Common.{◌≡◌, ℕ, suc, ◌+◌, ◌*◌, ◌<◌, ◌≤◌, List, [], ◌∷◌, length, Option, Some, None, refl, sym, ap, subst, ◌∙◌, arith}
 use Rattle.std.specs.Prelude.{codes}
 use Rattle.std.proofs.lemmas.Option.{same_Some}
 use Rattle.t_base.specs.declared.basics.Span.{Span}
@@ -12,9 +12,9 @@ use Rattle.t_rows.specs.Rows.{stands_for, word_, set_place, locative_object, par
 use Rattle.expand_laws.proofs.Costs.{Within, SumWithin, AllWithin, RowWithin, looser, looser_row, word_form, formed}
 use Rattle.expand_laws.proofs.CostBinds.{Below, all_within, one_most}
 use Rattle.expand_laws.proofs.CostBlocks.{atom_within}
-use Rattle.expand_laws.proofs.CostLets.{BindingWithin, BindingsWithin, pair_binding, bindings_listed, let_form}
-use Rattle.expand_laws.proofs.CostSets.{PlaceWithin, set_place_within}
-use Rattle.expand_laws.proofs.Most.{most, most_more, most_sum, most_some, most_beside, worth, worth_items, worth_list, worth_beside}
+use Rattle.expand_laws.proofs.CostLets.{BindingWithin, pair_binding, bindings_listed, let_form}
+use Rattle.expand_laws.proofs.CostSets.{set_place_within}
+use Rattle.expand_laws.proofs.Most.{most, most_more, most_sum, most_some, worth, worth_beside}
 use Rattle.expand_laws.proofs.Sizes.{size, total, size_some, size_listed, items_listed, items_size}
 
 -- the object of a place

@@ -1,5 +1,5 @@
 -- What SET and OBJECT cost, where smaller forms cost no more than is said.
-use Rattle.std.proofs.Common.{◌≡◌, ℕ, suc, ◌+◌, ◌*◌, ◌<◌, ◌≤◌, ◌==◌, true, false, not, if◌then◌else◌, List, [], ◌∷◌, ◌++◌, map, length, Option, Some, None, refl, sym, ap, subst, ◌∙◌, arith}
+use Rattle.std.proofs.Common.{◌≡◌, ℕ, ◌+◌, ◌*◌, ◌<◌, ◌≤◌, ◌==◌, true, false, not, if◌then◌else◌, List, [], ◌∷◌, ◌++◌, map, length, Option, Some, None, refl, subst, arith}
 use Rattle.std.specs.Option.{option_and_then}
 use Rattle.std.proofs.lemmas.List.{length-append}
 use Rattle.t_base.specs.declared.basics.Span.{Span}
@@ -9,11 +9,11 @@ use Rattle.t_forms.specs.Data.{operation, Datum, atom, cons, items_of, listed, a
 use Rattle.t_forms.specs.Names.{Meaning, a_local, a_global, an_op, the_builtin, the_operation, the_truth, the_listing, none, Scope}
 use Rattle.t_rows.specs.Rows.{stands_for, node, primitive, Part, plain, inside, body, set_name, set_through, not_settable, assigns, set_builtin, set_operation, set_call, meant, set_items, set_place, set_row, Method, method_of_head, method_of_items, methods_of, object_node, object_row}
 use Rattle.expand_laws.proofs.Always.{through, mapped}
-use Rattle.expand_laws.proofs.Costs.{Within, SumWithin, AllWithin, RowWithin, looser, looser_row, formed, either_row, sum_append, sum_mapped, one_sum, more_sum, plain_parts, all_found}
+use Rattle.expand_laws.proofs.Costs.{Within, SumWithin, AllWithin, RowWithin, looser, looser_row, formed, either_row, sum_append, sum_mapped, one_sum, plain_parts, all_found}
 use Rattle.expand_laws.proofs.CostBinds.{Below, IsSmall, all_small, all_within, one_most}
 use Rattle.expand_laws.proofs.CostBlocks.{atom_within, body_within}
 use Rattle.expand_laws.proofs.CostCalls.{call_form}
-use Rattle.expand_laws.proofs.Most.{most, most_more, most_sum, most_some, most_beside, worth, worth_items, worth_list}
+use Rattle.expand_laws.proofs.Most.{most, most_more, worth, worth_items, worth_list}
 use Rattle.expand_laws.proofs.Sizes.{size, total, items_size}
 
 -- ---- SET

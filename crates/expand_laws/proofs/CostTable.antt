@@ -1,5 +1,5 @@
 -- No form costs more than is said of its size.
-use Rattle.std.proofs.Common.{◌≡◌, ℕ, zero, suc, ◌+◌, ◌*◌, ◌<◌, ◌≤◌, List, [], ◌∷◌, length, Option, Some, None, refl, sym, ap, subst, ◌∙◌, arith}
+use Rattle.std.proofs.Common.{◌≡◌, ℕ, zero, suc, ◌+◌, ◌*◌, ◌≤◌, List, [], ◌∷◌, length, Option, Some, None, refl, arith}
 use Rattle.t_base.specs.declared.basics.Span.{Span}
 use Rattle.t_objects.specs.declared.words.Word.{Word}
 use Rattle.t_objects.specs.declared.words.Word.TheVariants as word
@@ -15,7 +15,7 @@ use Rattle.expand_laws.proofs.CostLets.{or_within}
 use Rattle.expand_laws.proofs.CostLoops.{do_row_within}
 use Rattle.expand_laws.proofs.CostPlaces.{locative_row_within}
 use Rattle.expand_laws.proofs.CostSets.{set_row_within, object_row_within}
-use Rattle.expand_laws.proofs.Most.{most, most_more, most_some, most_beside, most_sum, worth, worth_list}
+use Rattle.expand_laws.proofs.Most.{most, most_more, most_some, most_sum, worth, worth_list}
 use Rattle.expand_laws.proofs.Sizes.{size, total, size_some, items_size}
 
 definition_within : (n : ℕ) (s : Span) (o : Option Definition) → 1 ≤ n → RowWithin n (inner_definition s o)

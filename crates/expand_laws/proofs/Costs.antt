@@ -1,12 +1,11 @@
 -- What a form costs: its nodes, with the atoms and pairs of its constants.
-use Rattle.std.proofs.Common.{◌≡◌, ℕ, zero, suc, ◌+◌, ◌*◌, ◌<◌, ◌≤◌, Bool, true, false, if◌then◌else◌, List, [], ◌∷◌, ◌++◌, map, length, Option, Some, None, refl, sym, ap, subst, ◌∙◌, arith}
-use Rattle.std.specs.Option.{option_map, option_and_then}
+use Rattle.std.proofs.Common.{◌≡◌, ℕ, suc, ◌+◌, ◌≤◌, Bool, true, false, if◌then◌else◌, List, [], ◌∷◌, ◌++◌, map, length, Option, Some, None, refl, sym, ap, subst, arith}
+use Rattle.std.specs.Option.{option_map}
 use Rattle.t_base.specs.declared.basics.Span.{Span}
 use Rattle.t_objects.specs.declared.words.Word.{Word}
 use Rattle.t_objects.specs.Words.{word_named}
 use Rattle.t_forms.specs.Data.{Datum, listed, word_of, all_of}
 use Rattle.t_forms.specs.Names.{Scope, within}
-use Rattle.t_rows.specs.declared.refusal.Refusal.{Refusal}
 use Rattle.t_rows.specs.Rows.{Row, stands_for, node, Shape, constant, Part, plain, if_formed, word_, word_row, operator_row, items_row, call_row, row}
 use Rattle.expand_laws.specs.Ends.{Ends, as_form, as_node, AllEnd, no_parts, one_part}
 use Rattle.expand_laws.proofs.Always.{mapped}

@@ -1,11 +1,9 @@
 -- The data of a whole text unit are of the text, and have as many atoms and pairs as the unit has nodes.
-use Rattle.std.proofs.Common.{◌≡◌, ℕ, suc, zero, ◌+◌, ◌*◌, ◌<◌, ◌≤◌, ◌^◌, ◌++◌, Bool, true, false, List, [], ◌∷◌, length, map, All, Option, Some, None, slice_get, nat_le, refl, sym, ap, subst, ◌∙◌, arith}
-use Rattle.std.specs.List.{flat_map, list_all, AllByRecursion}
+use Rattle.std.proofs.Common.{◌≡◌, ℕ, suc, zero, ◌+◌, ◌<◌, ◌≤◌, ◌++◌, true, List, [], ◌∷◌, length, map, All, Some, slice_get, nat_le, refl, ap, subst, ◌∙◌, arith}
+use Rattle.std.specs.List.{list_all, AllByRecursion}
 use Rattle.std.proofs.lemmas.Bool.{leb-true}
 use Rattle.std.proofs.lemmas.List.Elements.{All-weaker}
 use Rattle.std.proofs.lemmas.List.Sums.{AllPass-from_list_all}
-use Rattle.std.proofs.lemmas.Option.{same_Some}
-use Rattle.t_base.specs.declared.basics.Span.{Span}
 use Rattle.t_reader.specs.declared.unit.Datum.{Datum as NodeDatum}
 use Rattle.t_reader.specs.declared.unit.Datum.TheVariants.{Fix, Char, Nil, True, Str, Sym, Pair}
 use Rattle.t_reader.specs.declared.unit.Node.{Node}

@@ -1,18 +1,18 @@
 -- What definitions are made of, where the datum is of the text.
-use Rattle.std.proofs.Common.{◌≡◌, ◌⊎◌, inl, inr, ℕ, suc, zero, ◌+◌, ◌<◌, ◌≤◌, Bool, true, false, is_none, List, [], ◌∷◌, length, map, Option, Some, None, slice_get, refl, sym, ap, subst, ◌∙◌, if◌then◌else◌, arith}
+use Rattle.std.proofs.Common.{◌≡◌, inl, inr, ℕ, suc, ◌+◌, ◌<◌, ◌≤◌, Bool, true, false, is_none, List, [], ◌∷◌, length, map, Option, Some, None, slice_get, refl, sym, ap, subst, if◌then◌else◌, arith}
 use Rattle.std.specs.List.{AllByRecursion}
 use Rattle.std.specs.Option.{option_map, option_and_then}
 use Rattle.std.proofs.lemmas.Option.{same_Some}
 use Rattle.t_base.specs.declared.basics.Span.{Span}
-use Rattle.t_reader.specs.Grammar.{Value, fix, char, nil, truth, string, symbol}
+use Rattle.t_reader.specs.Grammar.{fix, char, nil, truth, string, symbol}
 use Rattle.t_objects.specs.declared.words.Word.{Word}
 use Rattle.t_objects.specs.declared.words.Word.TheVariants as word
 use Rattle.t_objects.specs.Words.{word_named}
-use Rattle.t_forms.specs.Data.{Atom, given, variable, builtin, operation, listing, Datum, atom, cons, span_of, items_of, listed, Name, written, unless_reserved, name_of, Binder, binder, binder_of, all_of, binders_of}
+use Rattle.t_forms.specs.Data.{given, variable, builtin, operation, listing, Datum, atom, cons, items_of, listed, written, Binder, binder, binder_of, all_of, binders_of}
 use Rattle.t_rows.specs.Rows.{Definition, define, lset, operation_form, lambda_form, define_procedure, define_of, lset_of, default_of, define_operation_with, define_operation_of, definition_of_word}
 use Rattle.expand_laws.proofs.Made.{IsRight}
-use Rattle.expand_laws.proofs.OneTop.{IsNamed, IsDefaultForm, IsFineDefault, IsFineDefinition}
-use Rattle.expand_laws.proofs.Premises.{IsFormOf, IsProcedure}
+use Rattle.expand_laws.proofs.OneTop.{IsNamed, IsFineDefault, IsFineDefinition}
+use Rattle.expand_laws.proofs.Premises.{IsFormOf}
 use Rattle.expand_laws.proofs.Sizes.{size}
 use Rattle.expand_laws.proofs.Reached.{IsPure}
 use Rattle.expand_laws.proofs.TopsMade.{default_size, value_size}

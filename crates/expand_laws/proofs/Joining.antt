@@ -1,5 +1,5 @@
 -- One more form before the forms that are made.
-use Rattle.std.proofs.Common.{◌≡◌, ℕ, suc, ◌+◌, ◌*◌, ◌<◌, ◌≤◌, ◌^◌, ◌++◌, List, [], ◌∷◌, length, map, All, refl, sym, ap, subst, ◌∙◌, append_assoc, arith}
+use Rattle.std.proofs.Common.{◌≡◌, ℕ, suc, ◌+◌, ◌<◌, ◌≤◌, ◌++◌, List, [], ◌∷◌, length, All, refl, sym, ap, ◌∙◌, append_assoc, arith}
 use Rattle.std.specs.List.{flat_map}
 use Rattle.std.specs.Global.{Global}
 use Rattle.std.proofs.lemmas.Grind.{flat_map-append}
@@ -18,10 +18,10 @@ use Rattle.t_forms.specs.Names.{Bound}
 use Rattle.t_expand.specs.Meaning.{TopMeans}
 use Rattle.t_expand.specs.Quoting.{Adds}
 use Rattle.t_expand.specs.Units.{Top, defining, broken, expression}
-use Rattle.expand_laws.proofs.Made.{Stock, HasStock, HasDefined, numbers}
-use Rattle.expand_laws.proofs.Once.{IsOnce, once_none, once_join, times, times_append, times_mixed}
+use Rattle.expand_laws.proofs.Made.{Stock, HasStock, numbers}
+use Rattle.expand_laws.proofs.Once.{once_none, once_join, times, times_append, times_mixed}
 use Rattle.expand_laws.proofs.Shortness.{IsShort, vec_of}
-use Rattle.expand_laws.proofs.TopsMade.{TopMade, AllMade, TopStands, HasKind, HasKinds, kind_of, unit_named, top_size, tops_size}
+use Rattle.expand_laws.proofs.TopsMade.{TopMade, AllMade, TopStands, HasKind, kind_of, unit_named}
 
 -- ---- what stood before is there later
 

@@ -1,5 +1,5 @@
 -- How much a form of a size costs at most, and that it costs more than its parts.
-use Rattle.std.proofs.Common.{◌≡◌, ℕ, zero, suc, ◌+◌, ◌-◌, ◌*◌, ◌<◌, ◌≤◌, ◌^◌, List, [], ◌∷◌, length, Option, Some, refl, sym, ap, subst, ◌∙◌, arith}
+use Rattle.std.proofs.Common.{◌≡◌, ℕ, zero, suc, ◌+◌, ◌-◌, ◌*◌, ◌<◌, ◌≤◌, ◌^◌, List, [], ◌∷◌, length, Some, refl, ap, arith}
 use Rattle.t_forms.specs.Data.{Datum, items_of}
 use Rattle.expand_laws.proofs.Sizes.{size, total, size_some, items_size}
 

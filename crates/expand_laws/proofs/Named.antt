@@ -1,8 +1,8 @@
 -- What the names that a unit defines mean is there.
-use Rattle.std.proofs.Common.{◌≡◌, ℕ, suc, zero, ◌+◌, ◌<◌, ◌≤◌, Bool, true, false, List, [], ◌∷◌, length, map, All, Contains, Option, Some, None, slice_get, get_or, refl, sym, ap, subst, ◌∙◌, arith}
+use Rattle.std.proofs.Common.{◌≡◌, ℕ, ◌+◌, ◌<◌, ◌≤◌, Bool, true, false, List, length, map, Contains, Option, Some, slice_get, refl, sym, ap, subst, ◌∙◌}
 use Rattle.std.specs.List.{AllByRecursion}
 use Rattle.std.specs.Option.{option_map}
-use Rattle.std.proofs.lemmas.List.Elements.{All-from_recursion, All-get_or}
+use Rattle.std.proofs.lemmas.List.Elements.{All-from_recursion}
 use Rattle.std.proofs.lemmas.Option.{slice_get_within}
 use Rattle.t_base.specs.declared.shared_parts.Global1.{Global1}
 use Rattle.t_base.specs.declared.shared_parts.GlobalKind.TheVariants.{Variable}
@@ -14,7 +14,7 @@ use Rattle.t_expand.specs.Units.{Top, entry, meanings_from}
 use Rattle.expand_laws.proofs.Defining.{IsSplit, global_at, op_at, past_global, past_op}
 use Rattle.expand_laws.proofs.Made.{HasDefined}
 use Rattle.expand_laws.proofs.Numbering.{definitions}
-use Rattle.expand_laws.proofs.Reached.{IsDefinedGlobal, IsUnitOp}
+use Rattle.expand_laws.proofs.Reached.{IsDefinedGlobal}
 use Rattle.expand_laws.proofs.Tables.{Tabled, no_more, a_define, an_lset, an_operation, an_expression}
 
 -- a global, with its kind where it is assigned, or an operation

@@ -1,9 +1,9 @@
 -- What the names that forms define mean, where no name is defined twice: globals and operations are numbered in the order of the forms.
-use Rattle.std.proofs.Common.{◌≡◌, inl, inr, ℕ, suc, zero, ◌+◌, ◌==◌, ◌++◌, ◌||◌, Bool, true, false, not, is_some, List, [], ◌∷◌, length, map, fold, take, Contains, Option, Some, None, slice_get, refl, sym, ap, subst, ◌∙◌, append_assoc, if◌then◌else◌, arith}
-use Rattle.std.specs.List.{list_any, flat_map}
+use Rattle.std.proofs.Common.{◌≡◌, inl, ℕ, ◌+◌, ◌==◌, ◌++◌, ◌||◌, Bool, true, false, List, [], ◌∷◌, length, map, fold, take, Contains, Some, None, slice_get, refl, sym, ap, subst, ◌∙◌, append_assoc, if◌then◌else◌, arith}
+use Rattle.std.specs.List.{list_any}
 use Rattle.std.specs.Str.{bytes_eq}
 use Rattle.std.proofs.lemmas.Bool.Decides.{Decides-eqb}
-use Rattle.std.proofs.lemmas.List.{append-nil, length-append}
+use Rattle.std.proofs.lemmas.List.{append-nil}
 use Rattle.std.proofs.lemmas.List.Elements.{Contains-push}
 use Rattle.std.proofs.lemmas.List.Folds.{list_any-append}
 use Rattle.std.proofs.lemmas.Slice.Eq.{bytes_eq-Decides}
@@ -16,10 +16,10 @@ use Rattle.t_rows.specs.declared.refusal.Refusal.{Refusal}
 use Rattle.t_rows.specs.declared.refusal.SyntaxKind.TheVariants.{Twice}
 use Rattle.t_rows.specs.Rows.{Definition, define, lset, operation_form, refusal}
 use Rattle.t_expand.specs.Meaning.{IsKind}
-use Rattle.t_expand.specs.Refusals.{RefusedTop, RefusedAmong, RefusedIn, twice_defined}
-use Rattle.t_expand.specs.Units.{Top, defining, broken, expression, Entry, entry, defined_name, names_of, names_defined, has_entry, with_top, with_definition, entries_of, meanings_from, definitions_of, meaning_of, is_global, is_assigned}
+use Rattle.t_expand.specs.Refusals.{RefusedTop, RefusedAmong, twice_defined}
+use Rattle.t_expand.specs.Units.{Top, defining, broken, expression, Entry, entry, defined_name, names_of, names_defined, has_entry, with_top, with_definition, entries_of, meanings_from, definitions_of, meaning_of}
 use Rattle.t_expand.proofs.TopLemmas.{names_last}
-use Rattle.expand_laws.proofs.TopsMade.{HasKind, HasKinds, kind_meant}
+use Rattle.expand_laws.proofs.TopsMade.{HasKinds, kind_meant}
 
 -- ---- nothing is refused
 

@@ -1,31 +1,30 @@
 -- One form at top level, made from what it is made of.
-use Rattle.std.proofs.Common.{◌≡◌, ◌⊎◌, inl, inr, ℕ, suc, zero, ◌+◌, ◌*◌, ◌<◌, ◌≤◌, ◌^◌, ◌++◌, Bool, true, false, is_some, IsTrue, List, [], ◌∷◌, length, map, All, Contains, Option, Some, None, slice_get, refl, sym, ap, subst, ◌∙◌, arith}
+use Rattle.std.proofs.Common.{◌≡◌, inr, ℕ, ◌*◌, ◌<◌, ◌≤◌, ◌^◌, true, false, IsTrue, List, [], ◌∷◌, length, All, Contains, Option, Some, None, slice_get, refl, sym, ap, subst, ◌∙◌, arith}
 use Rattle.std.specs.Prelude.{codes}
 use Rattle.std.specs.List.{flat_map}
 use Rattle.std.specs.Option.{option_map_or, option_and_then}
-use Rattle.std.proofs.lemmas.List.{append-nil, length-append, length-map}
+use Rattle.std.proofs.lemmas.List.{append-nil, length-map}
 use Rattle.std.proofs.lemmas.List.Elements.{All-nil, Contains-push, Contains-append_left}
 use Rattle.t_base.specs.declared.basics.Span.{Span}
 use Rattle.t_base.specs.declared.basics.Var.{Var}
 use Rattle.t_base.specs.declared.shared_parts.Const.{Const}
 use Rattle.t_prim.specs.SharedParts.{IsConst}
-use Rattle.t_core.specs.declared.forms.Core.{Core}
 use Rattle.t_core.specs.declared.forms.Core.TheVariants as Node
 use Rattle.t_base.specs.declared.shared_parts.Shared.{Shared}
 use Rattle.t_core.specs.Nodes.{has_self, binders_of as node_binders}
 use Rattle.t_core.specs.Whole.{NamesAreThere, IsShaped, IsDefault}
-use Rattle.t_forms.specs.Data.{Datum, Binder, Name, written, items_of, binders_of, listed, names}
+use Rattle.t_forms.specs.Data.{Datum, Binder, Name, written, binders_of, listed, names}
 use Rattle.t_forms.specs.Names.{Bound, Scope}
 use Rattle.t_forms.proofs.Lists.{items_listed}
 use Rattle.t_rows.specs.declared.refusal.Refusal.{Refusal}
 use Rattle.t_rows.specs.Rows.{Definition, define, lset, operation_form, lambda_form, lambda_row, row, node, lambda, inside, body, twice, if_formed, items_row, word_, Part, refusal}
 use Rattle.t_rows.specs.declared.refusal.SyntaxKind.TheVariants.{BadForm}
 use Rattle.t_expand.specs.Meaning.{Nodes, RootMeans, top_scope}
-use Rattle.t_expand.specs.Refusals.{Refused, at_form, RefusedTop, RefusedDefinition}
+use Rattle.t_expand.specs.Refusals.{Refused, at_form, RefusedTop}
 use Rattle.t_expand.specs.Units.{Top, defining, broken, expression}
 use Rattle.expand_laws.proofs.Made.{Stock, FormMade, numbers, strings_named, pairs_named}
-use Rattle.expand_laws.proofs.Once.{IsOnce, once_none, once_of}
-use Rattle.expand_laws.proofs.Premises.{IsFormOf, IsProcedure, Makes, MakesForms}
+use Rattle.expand_laws.proofs.Once.{once_none, once_of}
+use Rattle.expand_laws.proofs.Premises.{IsFormOf, Makes, MakesForms}
 use Rattle.expand_laws.proofs.Sizes.{size}
 use Rattle.expand_laws.proofs.TopsMade.{TopMade, TopStands, IsFilled, top_size}
 

@@ -1,6 +1,5 @@
 -- The unit of forms that are made: its shared parts and its forms.
-use Rattle.std.proofs.Common.{◌≡◌, ℕ, suc, zero, ◌+◌, ◌*◌, ◌<◌, ◌≤◌, ◌^◌, ◌++◌, Bool, true, false, List, [], ◌∷◌, length, map, All, Option, Some, None, slice_get, refl, sym, ap, subst, ◌∙◌, arith}
-use Rattle.std.specs.Option.{option_map}
+use Rattle.std.proofs.Common.{ℕ, ◌+◌, ◌≤◌, ◌^◌, false, List, [], ◌∷◌, length, refl, sym, ap, ◌∙◌, arith}
 use Rattle.std.specs.Global.{Global}
 use Rattle.std.proofs.lemmas.List.{append-nil}
 use Rattle.t_base.specs.declared.shared_parts.Global1.{Global1}
@@ -10,7 +9,7 @@ use Rattle.t_core.specs.declared.forms.Form.{Form}
 use Rattle.t_core.specs.declared.forms.UnitCore.{UnitCore}
 use Rattle.t_core.specs.Counts.{form_count}
 use Rattle.t_core.specs.Limits.{greatest}
-use Rattle.t_expand.specs.Units.{Top, definitions_of, entry, meanings_from}
+use Rattle.t_expand.specs.Units.{Top, definitions_of, meanings_from}
 use Rattle.expand_laws.proofs.AllTops.{few_tops}
 use Rattle.expand_laws.proofs.Defining.{IsSplit}
 use Rattle.expand_laws.proofs.Made.{Stock, HasStock, HasDefined}

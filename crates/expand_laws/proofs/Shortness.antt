@@ -1,5 +1,5 @@
 -- Lists of the code that hold what they are to hold, where that is few enough.
-use Rattle.std.proofs.Common.{ℕ, ◌<◌, ◌^◌, List, length, refl}
+use Rattle.std.proofs.Common.{◌<◌, ◌^◌, List, length, refl}
 use Rattle.std.specs.Global.{Vec, Global}
 use Rattle.std.proofs.Math.Nat.{le_refl}
 use denote.RawPtr.{null_ptr}

@@ -1,5 +1,5 @@
 -- The globals and operations of forms: one for each definition, in order.
-use Rattle.std.proofs.Common.{◌≡◌, ℕ, suc, zero, ◌+◌, ◌<◌, ◌++◌, Bool, true, false, not, is_some, List, [], ◌∷◌, length, map, All, Option, Some, None, slice_get, refl, sym, ap, subst, ◌∙◌}
+use Rattle.std.proofs.Common.{◌≡◌, ℕ, ◌+◌, ◌<◌, Bool, true, false, not, is_some, List, [], ◌∷◌, length, map, All, Option, Some, slice_get, refl, sym, ap, ◌∙◌}
 use Rattle.std.specs.List.{filter}
 use Rattle.std.proofs.lemmas.List.Elements.{All-nil, All-cons}
 use Rattle.std.proofs.lemmas.Option.{slice_get_within}
@@ -13,13 +13,13 @@ use Rattle.t_core.specs.declared.forms.FormKind.{FormKind}
 use Rattle.t_core.specs.declared.forms.FormKind.TheVariants as kind
 use Rattle.t_core.specs.declared.forms.Form.{Form}
 use Rattle.t_core.specs.Whole.{DefinesAs, IsDefault, is_lambda_at}
-use Rattle.t_forms.specs.Data.{Datum, Binder, Name, written}
+use Rattle.t_forms.specs.Data.{Datum, Binder, Name}
 use Rattle.t_forms.specs.Names.{Bound}
 use Rattle.t_rows.specs.Rows.{Definition, define, lset, operation_form}
-use Rattle.t_expand.specs.Units.{Top, defining, broken, expression, Entry, entry, is_global, text_of, texts, meaning_of}
+use Rattle.t_expand.specs.Units.{Top, defining, broken, expression, entry, is_global, text_of, texts, meaning_of}
 use Rattle.expand_laws.proofs.Numbering.{definitions, own, AreNumbered}
-use Rattle.expand_laws.proofs.OneTop.{IsNamed, IsFineTop, IsFineDefinition}
-use Rattle.expand_laws.proofs.TopsMade.{AreFilled, kind_of, kind_meant}
+use Rattle.expand_laws.proofs.OneTop.{IsNamed, IsFineTop}
+use Rattle.expand_laws.proofs.TopsMade.{AreFilled, kind_meant}
 
 abbrev pub AreFine : List (List ℕ) → List Top → Type 0
 AreFine names [] = Unit {0}

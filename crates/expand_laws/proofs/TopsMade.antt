@@ -1,5 +1,5 @@
 -- What the forms at top level are, made one after another.
-use Rattle.std.proofs.Common.{◌≡◌, ℕ, zero, suc, ◌+◌, ◌*◌, ◌<◌, ◌≤◌, ◌^◌, ◌++◌, Bool, true, false, is_some, List, [], ◌∷◌, length, All, Option, Some, None}
+use Rattle.std.proofs.Common.{◌≡◌, ℕ, ◌+◌, ◌*◌, ◌<◌, ◌≤◌, ◌^◌, ◌++◌, true, false, is_some, List, [], ◌∷◌, length, All, Option, Some, None}
 use Rattle.std.specs.List.{flat_map}
 use Rattle.t_base.specs.declared.basics.Span.{Span}
 use Rattle.t_base.specs.declared.shared_parts.Const.{Const}

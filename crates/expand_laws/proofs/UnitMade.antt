@@ -1,38 +1,34 @@
 -- The data of a whole text unit in which nothing is refused have a core.
-use Rattle.std.proofs.Common.{◌≡◌, ◌≢◌, ℕ, suc, zero, ◌+◌, ◌*◌, ◌<◌, ◌≤◌, ◌^◌, ◌++◌, Bool, true, false, not, List, [], ◌∷◌, length, map, All, AllPairs, Option, Some, None, slice_get, refl, sym, ap, subst, ◌∙◌, nat_le, arith}
+use Rattle.std.proofs.Common.{◌≡◌, ◌≢◌, ℕ, suc, zero, ◌<◌, ◌≤◌, ◌++◌, true, false, not, List, [], ◌∷◌, length, map, All, AllPairs, Some, slice_get, refl, sym, ap, subst, ◌∙◌, nat_le, arith}
 use Rattle.std.specs.Prelude.{codes}
 use Rattle.std.specs.Option.{option_map}
-use Rattle.std.specs.List.{filter, list_all, flat_map}
+use Rattle.std.specs.List.{filter, list_all}
 use Rattle.std.specs.Global.{Global}
 use Rattle.std.proofs.lemmas.Bool.{leb-true, and_parts}
-use Rattle.std.proofs.lemmas.List.{append-nil, length-append}
-use Rattle.std.proofs.lemmas.List.Elements.{All-nil, All-cons, All-weaker}
+use Rattle.std.proofs.lemmas.List.Elements.{All-cons, All-weaker}
 use Rattle.std.proofs.lemmas.List.Sums.{AllPass-from_list_all}
-use Rattle.t_base.specs.declared.shared_parts.Const.{Const}
 use Rattle.t_base.specs.declared.shared_parts.OpInfo.{OpInfo}
 use Rattle.t_prim.specs.SharedParts.{IsNameText, HasLowerParts, IsWholeShared}
 use Rattle.t_reader.specs.declared.unit.Unit.{Unit as TextUnit}
 use Rattle.t_reader.specs.Grammar.{Tree}
 use Rattle.t_reader.specs.Tokens.{is_name, is_name_byte}
 use Rattle.t_reader.specs.Unit.{IsWhole, HoldTrees, fixed_names}
-use Rattle.t_core.specs.declared.forms.Form.{Form}
-use Rattle.t_core.specs.Nodes.{binders_of}
-use Rattle.t_core.specs.Whole.{HasScopes, HasDefinitions, HasSharedParts, binders, pair_in, pair_of}
+use Rattle.t_core.specs.Whole.{binders, pair_in, pair_of}
 use Rattle.t_core.specs.Whole.{IsWhole as IsWholeCore}
 use Rattle.core_check.specs.Sound.{string_in, string_of}
 use Rattle.core_check.proofs.Wholes.{distinct_vars}
 use Rattle.t_forms.specs.Data.{datum_of}
 use Rattle.t_rows.specs.declared.refusal.Refusal.{Refusal}
-use Rattle.t_expand.specs.Meaning.{IsCoreOf, FormsMean}
+use Rattle.t_expand.specs.Meaning.{FormsMean}
 use Rattle.t_expand.specs.Refusals.{RefusedIn}
-use Rattle.t_expand.specs.Units.{Top, tops_of, definitions_of, is_global, entry, texts, global_texts, op_texts}
+use Rattle.t_expand.specs.Units.{Top, tops_of, definitions_of, is_global, texts, global_texts, op_texts}
 use Rattle.t_expand.proofs.WholeLemmas.{forms_scoped}
 use Rattle.expand_laws.specs.Cores.{HasCore}
 use Rattle.expand_laws.proofs.AllTops.{all_tops}
 use Rattle.expand_laws.proofs.DefinedOnce.{global_once, op_once}
 use Rattle.expand_laws.proofs.Defining.{forms_defined}
-use Rattle.expand_laws.proofs.Made.{Stock, HasStock, HasDefined, numbers}
-use Rattle.expand_laws.proofs.Numbering.{all_clean, all_new, all_numbered, all_kinds, entries_are, definitions}
+use Rattle.expand_laws.proofs.Made.{numbers}
+use Rattle.expand_laws.proofs.Numbering.{all_clean, all_new, all_numbered, all_kinds, entries_are}
 use Rattle.expand_laws.proofs.Once.{distinct_of}
 use Rattle.expand_laws.proofs.Premises.{MakesForms}
 use Rattle.expand_laws.proofs.Ready.{IsReady, nothing_made, builtin_at, ops_behind, shared_of, unit_of, has_stock, has_defined, is_split}

@@ -1,20 +1,14 @@
 -- The data of a whole text unit have as many atoms and pairs as the unit has nodes.
-use Rattle.std.proofs.Common.{◌≡◌, ◌⊎◌, inl, inr, ℕ, suc, zero, ◌+◌, ◌*◌, ◌<◌, ◌≤◌, ◌==◌, ◌++◌, Bool, true, false, cond, List, [], ◌∷◌, length, map, Option, Some, None, slice_get, refl, sym, ap, subst, ◌∙◌, arith}
-use Rattle.std.specs.List.{flat_map, AllByRecursion}
+use Rattle.std.proofs.Common.{◌≡◌, ◌⊎◌, inl, inr, ℕ, suc, zero, ◌+◌, ◌*◌, ◌<◌, ◌≤◌, ◌==◌, ◌++◌, Bool, true, false, cond, List, [], ◌∷◌, length, Option, Some, None, slice_get, refl, sym, ap, ◌∙◌, arith}
+use Rattle.std.specs.List.{AllByRecursion}
 use Rattle.std.proofs.lemmas.Bool.{cases_eq, ne_eqb}
 use Rattle.std.proofs.lemmas.Bool.Decides.{Decides-eqb}
 use Rattle.std.proofs.lemmas.List.Sums.{sum_by-cons}
-use Rattle.std.proofs.lemmas.Option.{slice_get_within, slice_get-get_or}
+use Rattle.std.proofs.lemmas.Option.{slice_get_within}
 use Rattle.t_reader.specs.declared.unit.Datum.{Datum as NodeDatum}
-use Rattle.t_reader.specs.declared.unit.Datum.TheVariants.{Fix, Char, Nil, True, Str, Sym, Pair}
 use Rattle.t_reader.specs.declared.unit.Node.{Node}
-use Rattle.t_reader.specs.declared.unit.Unit.{Unit as TextUnit}
-use Rattle.t_reader.specs.Grammar.{Value, fix, char, nil, truth, string, symbol, Tree, leaf, pair}
-use Rattle.t_reader.specs.Unit.{IsValue, node, Holds, HoldTrees, children, named_by, IsWhole, IsWholeDatum}
-use Rattle.t_forms.specs.Data.{Datum, datum_of}
-use Rattle.t_forms.proofs.Loads.{holds_within}
+use Rattle.t_reader.specs.Unit.{children, named_by}
 use Rattle.expand_laws.proofs.Once.{times}
-use Rattle.expand_laws.proofs.Sizes.{size}
 
 -- ---- sums
 
