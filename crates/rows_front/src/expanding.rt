@@ -96,8 +96,8 @@ fn shown(alloc: Global, form: &Form, spans: &[Span]) -> Result<Vec<u8>, Memory> 
     Ok(out)
 }
 
-/// The form has the name `op`, a LAMBDA of one parameter and two sums. The second sum is made by the row of `+` with three
-/// operands, and so is the LAMBDA by that of the definition: each has the span of the datum of its row.
+/// Defines the operation `op` with a default, which is a LAMBDA of one parameter over two sums. The row of a sum of three makes the
+/// inner one, and the row of the definition makes the LAMBDA: these have the span of the datum to which their row was applied.
 static TEXT: &[u8] = b"(define-operation (op s) (+ s 1 2))";
 
 /// The operations of TEXT. Its names are `setter`, `contents`, `set-contents`, `define-operation`, `op`, `s` and `+`.
