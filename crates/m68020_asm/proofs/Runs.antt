@@ -35,7 +35,7 @@ use Rattle.m68020_asm.specs.declared.item.Item.TheVariants.{Plain, Label, Branch
 use Rattle.m68020_asm.specs.Items.{size_of, size_of_any, code_start, address, IsLabelAt, CanAssemble}
 use Rattle.m68020_asm.specs.Widths.{displacement}
 use Rattle.m68020_asm.specs.Assembled.{bytes_of, bytes_of_any, code_before, IsAssembled}
-use Rattle.m68020_asm.specs.Run.{Program, address_in, instruction_of, instruction_of_any, instruction_in, or_else, found_at, carried_out, item_step, went_on, reached, machine_after, start_of}
+use Rattle.m68020_asm.specs.Run.{Program, program_of, address_in, instruction_of, instruction_of_any, instruction_in, or_else, found_at, carried_out, item_step, went_on, reached, machine_after, start_of}
 use Rattle.m68020_asm.proofs.Addresses.{wider, address_next_of}
 use Rattle.m68020_asm.proofs.LabelPlaces.{address_bound}
 use Rattle.m68020_asm.proofs.Emitted.{code_next_of}
@@ -157,10 +157,6 @@ lands from to f t =
     ]
 
 -- ---- assembled items
-
--- the items as they stand in the code that came of them
-abbrev pub program_of : (items : List Item) (bytes labels : List ℕ) → IsAssembled items bytes labels → Program
-program_of items bytes labels h = record { items = items; widths = h.widths; labels = labels }
 
 code_split : (items : List Item) (ws : ℕ → Width) (labels : List ℕ) (k n : ℕ) → k ≤ n → (rest : List ℕ) × (code_before items ws labels n ≡ code_before items ws labels k ++ rest)
 unfolding code_before

@@ -14,12 +14,17 @@ use Rattle.m68020_asm.specs.declared.item.Item.{Item}
 use Rattle.m68020_asm.specs.declared.item.Item.TheVariants.{Plain, Label, Branch, CodeAddr}
 use Rattle.m68020_asm.specs.Items.{address}
 use Rattle.m68020_asm.specs.Widths.{displacement}
+use Rattle.m68020_asm.specs.Assembled.{IsAssembled}
 
 -- Items as they stand in code: the width of each branch, and the address of each label.
 pub record Program : Type 0 where
   pub items : List Item
   pub widths : ℕ → Width
   pub labels : List ℕ
+
+-- the items as they stand in the code that came of them
+abbrev pub program_of : (items : List Item) (bytes labels : List ℕ) → IsAssembled items bytes labels → Program
+program_of items bytes labels h = record { items = items; widths = h.widths; labels = labels }
 
 -- the address of the item at a place
 abbrev pub address_in : Program → ℕ → ℕ

@@ -11,6 +11,7 @@ use m68020_code::{Instr, Width, encode};
 use std::alloc::Global;
 use t_base::Memory;
 
+/// How many bytes a branch of the width has: 2, 4 or 6.
 pub fn branch_size(width: Width) -> u8
     ensures { result ≡ branch_size width }
 {

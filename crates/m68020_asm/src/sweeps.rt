@@ -17,6 +17,7 @@ use m68020_code::Width;
 /// From where a sweep towards the front counts addresses down: further than any code reaches.
 const COUNT_FROM: u32 = 1 << 29;
 
+/// How many bytes a branch goes: it counts from the branch's address plus 2. Both addresses are below 2^30.
 pub fn displacement(from: u32, to: u32) -> i32
     requires from { from < 2 ^ 30 }
     requires to { to < 2 ^ 30 }

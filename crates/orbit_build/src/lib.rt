@@ -5,6 +5,7 @@
 mod build;
 mod emit;
 mod fault;
+pub mod laws;
 mod term;
 mod unit;
 

@@ -4,6 +4,8 @@
 #![tactic(auto)]
 
 #[cfg(test)]
+mod expanding;
+#[cfg(test)]
 mod outside;
 #[cfg(test)]
 mod reading;

@@ -107,6 +107,21 @@ fn every_put(rt: HostRuntime) -> Result<(), Fail> {
     Ok(())
 }
 
+/// The sink counts the empty put and fails at it.
+#[test]
+fn an_empty_string_is_one_put(rt: HostRuntime) -> Result<(), Fail> {
+    let alloc = rt.alloc();
+    let code = code_of(alloc, (0x2000_006A, 0, 0), 5)?;
+    let mut program = load(alloc, &code, STATICS)?;
+    let mut fail: Vec<(u32, u32)> = Vec::new(alloc);
+    fail.push((1, 0))?;
+    let mut out = MemSink::new(alloc, 99, fail)?;
+    assert_eq!(rt; run(&mut program, 4, &mut out), End::Sink);
+    assert_eq!(rt; out.bytes(), b"".as_slice());
+    assert_eq!(rt; program.last_byte(), None);
+    Ok(())
+}
+
 /// The fault that each number raises, from 1 on.
 static FAULTS: [Fault; 16] = [
     Fault::NotProcedure,

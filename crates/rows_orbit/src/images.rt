@@ -41,49 +41,113 @@ fn an_image_is_listed(rt: HostRuntime) -> Result<(), Fail> {
     check(&rt, rt.alloc(), SEVEN, &["list", "m0"], lines)
 }
 
-fn check_damaged(
+/// Where bytes of the image are replaced, by which, and the bytes behind its end.
+type Damage = (usize, &'static [u8], &'static [u8]);
+
+fn damaged(rt: &impl Abort, alloc: Global, damage: Damage) -> Result<Vec<u8>, Fail> {
+    let (at, bytes, more) = damage;
+    assert!(rt; at <= SEVEN.len() && bytes.len() <= SEVEN.len() - at && more.len() < 1000);
+    let mut image = Vec::from_slice(alloc, &SEVEN[..at])?;
+    image.extend_from_slice(bytes)?;
+    image.extend_from_slice(&SEVEN[at + bytes.len()..])?;
+    image.extend_from_slice(more)?;
+    Ok(image)
+}
+
+fn check_refused(
     rt: &impl Abort,
     alloc: Global,
-    at: usize,
-    byte: u8,
+    image: &[u8],
     line: &'static [u8],
 ) -> Result<(), Fail> {
-    let mut bytes = Vec::from_slice(alloc, SEVEN)?;
-    assert!(rt; at < bytes.len());
-    bytes[at] = byte;
-    check(
-        rt,
-        alloc,
-        &bytes,
-        &["run", "m0", "64", "64", "3"],
-        refused(line),
-    )?;
-    check(rt, alloc, &bytes, &["list", "m0"], refused(line))
+    let words = ["run", "m0", "64", "64", "10"];
+    check(rt, alloc, image, &words, refused(line))?;
+    check(rt, alloc, image, &["list", "m0"], refused(line))
 }
+
+#[test]
+fn each_bit_of_the_magic(rt: HostRuntime) -> Result<(), Fail> {
+    let alloc = rt.alloc();
+    for at in 0..4 {
+        for bit in [1u8, 2, 4, 8, 16, 32, 64, 128] {
+            let mut image = Vec::from_slice(alloc, SEVEN)?;
+            image[at] ^= bit;
+            check_refused(&rt, alloc, &image, b"m0: I1 Magic at 0\n")?;
+        }
+    }
+    Ok(())
+}
+
+/// Fields of the image that break their rule, one or two at a time, and what fails first.
+static DAMAGED: [(Damage, &[u8]); 18] = [
+    // the version
+    ((4, b"\0\0\0\0", b""), b"m0: I2 Version at 4\n"),
+    ((4, b"\0\0\0\x03", b""), b"m0: I2 Version at 4\n"),
+    // the entry behind the code, and an odd one
+    ((8, b"\0\x01\0\x06", b""), b"m0: I5 Field at 8\n"),
+    ((8, b"\0\x01\0\x01", b""), b"m0: I5 Field at 8\n"),
+    // the length of code
+    ((12, b"\0\0\0\x04", b""), b"m0: I4 Long at 36\n"),
+    ((12, b"\0\0\0\x08", b""), b"m0: I3 Short at 38\n"),
+    ((12, b"\0\0\0\0", b""), b"m0: I4 Long at 32\n"),
+    ((12, b"\xFF\xFF\xFF\xFF", b""), b"m0: I3 Short at 38\n"),
+    ((12, b"\0\0\0\x07", b"\0"), b"m0: I5 Field at 12\n"),
+    // the length of static data
+    ((16, b"\0\0\0\x04", b"\0\0\0\0"), b"m0: I5 Field at 16\n"),
+    // more names than there are, and bytes behind the last one
+    ((20, b"\0\0\0\x01", b""), b"m0: I5 Field at 38\n"),
+    ((24, b"\0\0\0\x01", b"\0"), b"m0: I5 Field at 38\n"),
+    // the last field of the header
+    ((28, b"\0\0\0\x01", b""), b"m0: I5 Field at 28\n"),
+    // a name of no bytes, one that runs past the end, one name twice, a byte that is a blank
+    (
+        (20, b"\0\0\0\x01\0\0\0\x02", b"\0\0"),
+        b"m0: I5 Field at 38\n",
+    ),
+    (
+        (20, b"\0\0\0\x01\0\0\0\x03", b"\0\x02a"),
+        b"m0: I5 Field at 38\n",
+    ),
+    (
+        (20, b"\0\0\0\x02\0\0\0\x06", b"\0\x01a\0\x01a"),
+        b"m0: I5 Field at 41\n",
+    ),
+    (
+        (20, b"\0\0\0\x01\0\0\0\x03", b"\0\x01 "),
+        b"m0: I5 Field at 40\n",
+    ),
+    // a byte behind the end
+    ((38, b"", b"\0"), b"m0: I4 Long at 38\n"),
+];
 
 #[test]
 fn damaged_fields(rt: HostRuntime) -> Result<(), Fail> {
     let alloc = rt.alloc();
-    check_damaged(&rt, alloc, 0, 0x50, b"m0: I1 Magic at 0\n")?;
-    check_damaged(&rt, alloc, 7, 3, b"m0: I2 Version at 4\n")?;
-    check_damaged(&rt, alloc, 11, 1, b"m0: I5 Field at 8\n")?;
-    check_damaged(&rt, alloc, 23, 1, b"m0: I5 Field at 38\n")?;
-    check_damaged(&rt, alloc, 31, 1, b"m0: I5 Field at 28\n")?;
+    for (damage, line) in DAMAGED {
+        let image = damaged(&rt, alloc, damage)?;
+        check_refused(&rt, alloc, &image, line)?;
+    }
     Ok(())
 }
 
+/// Other fields that keep their rule: an entry at the second instruction, and the names `a` and `b`. D0 is 0 at boot.
+static CHANGED: [(Damage, &[u8]); 2] = [
+    ((8, b"\0\x01\0\x02", b""), b"0\nvalue 0\n"),
+    (
+        (20, b"\0\0\0\x02\0\0\0\x06", b"\0\x01a\0\x01b"),
+        b"7\nvalue 7\n",
+    ),
+];
+
 #[test]
-fn a_byte_more(rt: HostRuntime) -> Result<(), Fail> {
+fn fields_that_keep_their_rule(rt: HostRuntime) -> Result<(), Fail> {
     let alloc = rt.alloc();
-    let mut bytes = Vec::from_slice(alloc, SEVEN)?;
-    bytes.push(0)?;
-    check(
-        &rt,
-        alloc,
-        &bytes,
-        &["run", "m0", "64", "64", "3"],
-        refused(b"m0: I4 Long at 38\n"),
-    )
+    for (damage, out) in CHANGED {
+        let image = damaged(&rt, alloc, damage)?;
+        let words = ["run", "m0", "64", "64", "10"];
+        check(&rt, alloc, &image, &words, done(out))?;
+    }
+    Ok(())
 }
 
 /// The line of the image's first so many bytes, by their number.
@@ -142,49 +206,69 @@ fn every_truncation(rt: HostRuntime) -> Result<(), Fail> {
     Ok(())
 }
 
-fn check_stop(rt: &impl Abort, alloc: Global, code: &[u8], err: &'static [u8]) -> Result<(), Fail> {
+/// Code whose run ends without a value within 1,000 instructions, and its line and status.
+static REPLACED: [(&[u8], &[u8], Status); 7] = [
+    // ILLEGAL, TRAP #15, DIVSL.L D1,D2:D0 by zero
+    (
+        b"\x4A\xFC\x4E\x71\x4E\x71",
+        b"machine stop Illegal at 00010000\n",
+        Status::MachineStop,
+    ),
+    (
+        b"\x4E\x4F\x4E\x71\x4E\x71",
+        b"machine stop BadService at 00010000\n",
+        Status::MachineStop,
+    ),
+    (
+        b"\x4C\x41\x08\x02\x4E\x71",
+        b"machine stop ZeroDivide at 00010000\n",
+        Status::MachineStop,
+    ),
+    // JMP $00010001.L, MOVE.L $00000000.L,D0
+    (
+        b"\x4E\xF9\x00\x01\x00\x01",
+        b"machine stop OddAddress at 00010001\n",
+        Status::MachineStop,
+    ),
+    (
+        b"\x20\x39\x00\x00\x00\x00",
+        b"machine stop BadAddress at 00010000\n",
+        Status::MachineStop,
+    ),
+    // NOP up to the end of code, a branch to itself
+    (
+        b"\x4E\x71\x4E\x71\x4E\x71",
+        b"machine stop BadAddress at 00010006\n",
+        Status::MachineStop,
+    ),
+    (
+        b"\x60\xFE\x4E\x71\x4E\x71",
+        b"step limit: 1000\n",
+        Status::StepLimit,
+    ),
+];
+
+/// Runs an image of some code that puts nothing and has no value.
+fn check_end(
+    rt: &impl Abort,
+    alloc: Global,
+    (code, err, status): (&[u8], &'static [u8], Status),
+    steps: &str,
+) -> Result<(), Fail> {
+    let image = image_of(rt, alloc, code)?;
     let seen = Seen {
         out: b"",
         err,
-        status: Status::MachineStop,
+        status,
     };
-    let image = image_of(rt, alloc, code)?;
-    check(
-        rt,
-        alloc,
-        &image,
-        &["run", "m0", "64", "64", "1099511627776"],
-        seen,
-    )
+    check(rt, alloc, &image, &["run", "m0", "64", "64", steps], seen)
 }
 
 #[test]
-fn code_that_stops(rt: HostRuntime) -> Result<(), Fail> {
-    let alloc = rt.alloc();
-    check_stop(
-        &rt,
-        alloc,
-        b"\x4A\xFC\x4E\x71\x4E\x71",
-        b"machine stop Illegal at 00010000\n",
-    )?;
-    check_stop(
-        &rt,
-        alloc,
-        b"\x4E\x4F\x4E\x71\x4E\x71",
-        b"machine stop BadService at 00010000\n",
-    )?;
-    check_stop(
-        &rt,
-        alloc,
-        b"\x4C\x41\x08\x02\x4E\x71",
-        b"machine stop ZeroDivide at 00010000\n",
-    )?;
-    check_stop(
-        &rt,
-        alloc,
-        b"\x4E\x71\x4E\x71\x4E\x71",
-        b"machine stop BadAddress at 00010006\n",
-    )?;
+fn replaced_code(rt: HostRuntime) -> Result<(), Fail> {
+    for row in REPLACED {
+        check_end(&rt, rt.alloc(), row, "1000")?;
+    }
     Ok(())
 }
 
@@ -290,15 +374,43 @@ static ENDS: [(&[u8], &[u8], Status); 4] = [
 
 #[test]
 fn ends_without_a_value(rt: HostRuntime) -> Result<(), Fail> {
+    for row in ENDS {
+        check_end(&rt, rt.alloc(), row, "4")?;
+    }
+    Ok(())
+}
+
+/// An image whose run ends at once with a value. Its static data are the symbol of the second name, and its names `ab` and `c`.
+fn image_of_value(alloc: Global, word: u32) -> Result<Vec<u8>, Fail> {
+    let mut bytes = Vec::from_slice(
+        alloc,
+        b"ORBI\0\0\0\x01\0\x01\0\0\0\0\0\x08\0\0\0\x10\0\0\0\x02\0\0\0\x07\0\0\0\0\x20\x3C",
+    )?;
+    bytes.extend_from_slice(&word.to_be_bytes())?;
+    bytes.extend_from_slice(b"\x4E\x40\0\0\0\x19\0\0\0\x04\0\0\0\0\0\0\0\0\0\x02ab\0\x01c")?;
+    Ok(bytes)
+}
+
+/// The word of a value, and the value's line.
+static VALUES: [(u32, &[u8]); 9] = [
+    (0x2000_0002, b"value c\n"),
+    (0x0000_2001, b"value #\\space\n"),
+    (0x0000_0A01, b"value #\\newline\n"),
+    (0x0000_6101, b"value #\\a\n"),
+    (0x0000_7F01, b"value #\\127\n"),
+    (0x0000_0001, b"value #\\000\n"),
+    (0x0000_0005, b"value ()\n"),
+    (0x0000_0009, b"value #t\n"),
+    (0x4000_0003, b"value {Pair}\n"),
+];
+
+#[test]
+fn values_that_are_no_fixnums(rt: HostRuntime) -> Result<(), Fail> {
     let alloc = rt.alloc();
-    for (code, err, status) in ENDS {
-        let image = image_of(&rt, alloc, code)?;
-        let seen = Seen {
-            out: b"",
-            err,
-            status,
-        };
-        check(&rt, alloc, &image, &["run", "m0", "64", "64", "4"], seen)?;
+    for (word, line) in VALUES {
+        let image = image_of_value(alloc, word)?;
+        let words = ["run", "m0", "64", "64", "2"];
+        check(&rt, alloc, &image, &words, done(line))?;
     }
     Ok(())
 }

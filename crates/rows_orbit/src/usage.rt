@@ -22,9 +22,10 @@ fn check_usage(rt: &impl Abort, alloc: Global, words: &[&str]) -> Result<(), Fai
 }
 
 /// Heap, stack and steps that are no numbers within their limits.
-static NUMBERS: [[&str; 3]; 10] = [
+static NUMBERS: [[&str; 3]; 11] = [
     ["63", "64", "1"],
     ["60", "64", "1"],
+    ["268435464", "64", "1"],
     ["64", "268435464", "1"],
     ["64", "72.", "1"],
     ["64", "64", "1099511627777"],

@@ -6,6 +6,7 @@ ghost use Rattle.t_forms.specs.Builtins.{number_names, test_names, data_names, o
 
 use t_base::Prim;
 
+/// Whether the text has exactly these bytes.
 pub fn is_spelled(text: &[u8], spelling: &[u8]) -> bool
     ensures { result ≡ bytes_eq text.now spelling.now }
 {

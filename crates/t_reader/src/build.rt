@@ -55,6 +55,7 @@ impl Build {
     ghost use Rattle.t_reader.specs.Grammar.{Tree, Before, symbol, atom_value, TakesDatum, IsSound, close_kind, dot_kind, single, in_list, after_mark, outside, none, Forms, Form, more, to, listed, dotted};
     ghost use Rattle.t_reader.specs.Steps.{put, closed, with_dot};
 
+    /// Before the first token: no data, and the names `setter`, `contents` and `set-contents`. The only error is the want of memory.
     pub fn new(alloc: Global) -> Result<Self, ReadFault>
         ensures weight { IfOk result (λ b. weight b ≤ 3) }
         ensures reached { IfOk result (λ b. (text : List ℕ) → Reached text (outside none) b) }
@@ -135,6 +136,8 @@ impl Build {
         }
     }
 
+    /// Adds the datum of an atom with this span and these bytes, and ends the quote marks that wait for it. The only error is the want of
+    /// memory.
     pub fn add_atom(&mut self, atom: Atom, span: Span, bytes: &[u8]) -> Result<(), ReadFault>
         requires { weight self.old + 5 ≤ 2 ^ 23 }
         ensures weight { OnOk result (weight self.new ≤ weight self.old + 5) }
@@ -150,6 +153,7 @@ impl Build {
         Ok(())
     }
 
+    /// Opens a list, whose parenthesis has this span. The only error is the want of memory.
     pub fn open(&mut self, span: Span) -> Result<(), ReadFault>
         ensures weight { OnOk result (weight self.new ≤ weight self.old + 5) }
         ensures names { OnOk result (self.new.names ≡ self.old.names) }
@@ -167,6 +171,7 @@ impl Build {
         Ok(())
     }
 
+    /// A quote mark with this span waits for its datum. The only error is the want of memory.
     pub fn quote(&mut self, span: Span) -> Result<(), ReadFault>
         requires { weight self.old + 5 ≤ 2 ^ 23 }
         ensures weight { OnOk result (weight self.new ≤ weight self.old + 5) }
