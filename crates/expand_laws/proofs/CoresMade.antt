@@ -11,18 +11,16 @@ use Rattle.t_expand.specs.Meaning.{top_scope}
 use Rattle.t_expand.specs.Refusals.{RefusedIn}
 use Rattle.t_expand.specs.Units.{tops_of, definitions_of}
 use Rattle.expand_laws.specs.Cores.{HasCore, HasFirstRefusal}
-use Rattle.expand_laws.proofs.ComesWithin.{comes_within}
-use Rattle.expand_laws.proofs.Most.{most, most_multiple}
-use Rattle.expand_laws.proofs.ReachedCosts.{cost}
+use Rattle.expand_laws.proofs.Costs.{cost}
 use Rattle.expand_laws.proofs.Fine.{IsItem, IsFine, pure_item, pure_fine, listed_tail}
 use Rattle.expand_laws.proofs.FirstOrNone.{EndsOnGiven, first_or_none}
 use Rattle.expand_laws.proofs.FormsMade.{form_made_within}
 use Rattle.expand_laws.proofs.Made.{IsRight}
 use Rattle.expand_laws.proofs.NameShapes.{DefinesOwn, definitions_own}
 use Rattle.expand_laws.proofs.Premises.{IsProcedure, IsFormOf, MakesForms}
-use Rattle.expand_laws.proofs.Reached.{IsPure, HasMadeValues, Comes}
+use Rattle.expand_laws.proofs.Reached.{IsPure, HasMadeValues}
 use Rattle.expand_laws.proofs.Sizes.{size}
-use Rattle.expand_laws.proofs.TableEnds.{comes, comes_pure, comes_ends}
+use Rattle.expand_laws.proofs.TableEnds.{comes_within, comes_pure, comes_ends}
 use Rattle.expand_laws.proofs.UnitMade.{unit_made}
 
 -- ---- forms
@@ -44,21 +42,20 @@ form_fine names d (inl pure) = pure_fine (IsRight names) d pure
 form_fine names d (inr p) = procedure_fine names d p
 
 -- what is made of a form is no more than some multiple of its size
-within : (k n m : ℕ) → n ≤ 2 ^ 26 → m ≤ most n → k ≤ m → k ≤ 2 ^ 31 * n
-within k n m small a b = let c = most_multiple n small in omega (arith, a, b, c)
+within : (k n m : ℕ) → m ≤ 64 * n → k ≤ m → k ≤ 2 ^ 31 * n
+within k n m a b = omega (arith, a, b)
 
 pub makes_forms : (names : List (List ℕ)) (defined : List Bound) → DefinesOwn defined → MakesForms names defined
 makes_forms names defined own d before form small none =
-    let right = IsRight names in
-    let c : Comes right (top_scope defined) d = comes right (made_values names) (top_scope defined) d (form_fine names d form) in
-    let m = form_made_within names defined d before own c none in
-    let bound : cost right (top_scope defined) d c ≤ most (size d) = comes_within right (top_scope defined) d c in
+    let c = comes_within (IsRight names) (made_values names) (top_scope defined) d (form_fine names d form) in
+    let m = form_made_within names defined d before own c.0 none in
+    let bound = cost (IsRight names) (top_scope defined) d c.0 in
     record {
       after = m.after;
       made = m.made;
-      few_nodes = within (length m.made.nodes) (size d) (cost right (top_scope defined) d c) small bound m.few_nodes;
-      few_strings = within (length m.made.new_strings) (size d) (cost right (top_scope defined) d c) small bound m.few_strings;
-      few_pairs = within (length m.made.new_pairs) (size d) (cost right (top_scope defined) d c) small bound m.few_pairs;
+      few_nodes = within (length m.made.nodes) (size d) bound c.1 m.few_nodes;
+      few_strings = within (length m.made.new_strings) (size d) bound c.1 m.few_strings;
+      few_pairs = within (length m.made.new_pairs) (size d) bound c.1 m.few_pairs;
     }
 
 -- ---- the unit

@@ -2,7 +2,7 @@
 use Rattle.std.proofs.Common.{◌≡◌, ℕ, ◌+◌, ◌≤◌, List, ◌++◌, length, ap, ◌∙◌, arith}
 use Rattle.std.proofs.lemmas.List.{length-append}
 use Rattle.t_rows.specs.Rows.{Shape, constant, local, global, builtin_value, op_value, lambda, if_, block, let_, labels, set_local, set_global, catch_, object, call, primitive, nothing}
-use Rattle.expand_laws.proofs.ReachedCosts.{shape_cost}
+use Rattle.expand_laws.proofs.Costs.{shape_cost}
 use Rattle.expand_laws.proofs.Gaining.{with_vars}
 use Rattle.expand_laws.proofs.Made.{Stock}
 use Rattle.expand_laws.proofs.Sizes.{size_some}

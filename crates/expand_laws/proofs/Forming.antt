@@ -14,7 +14,7 @@ use Rattle.t_expand.specs.Meaning.{top_scope}
 use Rattle.t_expand.specs.Refusals.{Refused, in_form, at_form, in_part}
 use Rattle.expand_laws.proofs.BinderChoices.{lambda_choice, catch_choice, let_choice, labels_choice}
 use Rattle.expand_laws.proofs.Choices.{constant_choice, local_choice, global_choice, builtin_choice, op_choice, if_choice, block_choice, set_local_choice, set_global_choice, call_choice, primitive_choice}
-use Rattle.expand_laws.proofs.ReachedCosts.{cost, all_cost}
+use Rattle.expand_laws.proofs.Costs.{cost, all_cost}
 use Rattle.expand_laws.proofs.Counting.{once_pairs, once_between}
 use Rattle.expand_laws.proofs.Few.{few_more}
 use Rattle.expand_laws.proofs.Made.{Stock, FormMadeWithin, IsRight, numbers, strings_named, pairs_named}

@@ -5,7 +5,7 @@ use Rattle.t_forms.specs.Data.{Datum}
 use Rattle.t_forms.specs.Names.{Bound}
 use Rattle.t_expand.specs.Meaning.{top_scope}
 use Rattle.t_expand.specs.Refusals.{Refused}
-use Rattle.expand_laws.proofs.ReachedCosts.{cost}
+use Rattle.expand_laws.proofs.Costs.{cost}
 use Rattle.expand_laws.proofs.Forming.{RowsShaped, form_made}
 use Rattle.expand_laws.proofs.Made.{Stock, FormMadeWithin, IsRight}
 use Rattle.expand_laws.proofs.NameShapes.{DefinesOwn}

@@ -15,20 +15,10 @@ pub mod Calls
 pub mod CaseRows
 pub mod Choices
 pub mod Collecting
-pub mod ComesWithin
 pub mod CondRows
 pub mod Constants
 pub mod CoresMade
 pub mod CoresWalked
-pub mod CostBinds
-pub mod CostBlocks
-pub mod CostCalls
-pub mod CostCases
-pub mod CostLets
-pub mod CostLoops
-pub mod CostPlaces
-pub mod CostSets
-pub mod CostTable
 pub mod Costs
 pub mod CountedOnce
 pub mod Counting
@@ -54,7 +44,6 @@ pub mod ListedRefusals
 pub mod LocativeRows
 pub mod Made
 pub mod MethodShapes
-pub mod Most
 pub mod NameShapes
 pub mod Named
 pub mod NodeShapes
@@ -68,7 +57,6 @@ pub mod Placing
 pub mod Premises
 pub mod PureForms
 pub mod Reached
-pub mod ReachedCosts
 pub mod Reaching
 pub mod Ready
 pub mod RefusalsOf
@@ -91,3 +79,4 @@ pub mod TreeSums
 pub mod UnitMade
 pub mod Walking
 pub mod Weights
+pub mod Worths

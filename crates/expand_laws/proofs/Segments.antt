@@ -18,7 +18,7 @@ use Rattle.t_forms.specs.Data.{Datum, Name, span_of}
 use Rattle.t_forms.specs.Names.{Scope, within}
 use Rattle.t_rows.specs.Rows.{stands_for, node, Shape, lambda, Part, inside, row}
 use Rattle.t_expand.specs.Meaning.{Fits, Nodes, Means, as_form, as_node, AllMean, no_parts, one_part}
-use Rattle.expand_laws.proofs.ReachedCosts.{shape_cost}
+use Rattle.expand_laws.proofs.Costs.{shape_cost}
 use Rattle.expand_laws.proofs.Few.{IsFew, few_none, few_both, few_counted}
 use Rattle.expand_laws.proofs.Gaining.{Gains, gains_none, gains_both, gains_swapped, stock_before}
 use Rattle.expand_laws.proofs.Made.{Stock, HasStock, HasDefined}
