@@ -3,7 +3,7 @@ ghost use Rattle.std.specs.Prelude.{◌≡◌, ◌+◌, ◌^◌, ◌<◌, ◌≤
 ghost use Rattle.t_prim.specs.SharedParts.{HasLowerParts};
 ghost use Rattle.t_core.specs.Counts.{method_nodes, node_count, definition_count, form_count, weight_of, bulk_of};
 
-use crate::quoted::count_datum;
+use crate::quoted::count_constant;
 use crate::{Core, Form, FormKind, Method, UnitCore};
 use t_base::{Const, Shared};
 
@@ -24,7 +24,7 @@ fn count_node(node: &Core, pairs: &[(Const, Const)]) -> u64
     ensures { result ≡ node_count pairs.now node.now }
 {
     match node {
-        Core::Const(c) => count_datum(pairs, *c),
+        Core::Const(c) => count_constant(pairs, *c),
         Core::Lambda { params, .. } => 1 + params.as_slice().len() as u64,
         Core::Let { vars, .. } => 1 + vars.as_slice().len() as u64,
         Core::Labels { vars, .. } => 1 + vars.as_slice().len() as u64,

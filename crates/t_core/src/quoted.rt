@@ -9,8 +9,20 @@ use t_base::Const;
 // How many data may wait to be counted. Parentheses nest less deep in a text.
 const ROOM: usize = 512;
 
-/// How many pairs and atoms a datum has.
-pub fn count_datum(pairs: &[(Const, Const)], root: Const) -> u64
+/// How many pairs and atoms a datum has. It takes one step for an atom, as most constants are.
+pub fn count_constant(pairs: &[(Const, Const)], c: Const) -> u64
+    requires lower { HasLowerParts pairs.now }
+    requires fits { datum_nodes pairs.now c < 2 ^ 32 }
+    ensures { result ≡ datum_nodes pairs.now c }
+{
+    match pair_at(pairs, c) {
+        Some(_) => count_datum(pairs, c),
+        None => 1,
+    }
+}
+
+// How many pairs and atoms a datum has.
+fn count_datum(pairs: &[(Const, Const)], root: Const) -> u64
     requires lower { HasLowerParts pairs.now }
     requires fits { datum_nodes pairs.now root < 2 ^ 32 }
     ensures { result ≡ datum_nodes pairs.now root }

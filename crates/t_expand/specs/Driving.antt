@@ -70,7 +70,7 @@ pub record IsOpen (e : Expansion) (f : Frame) (o : Open) : Type 0 where
 abbrev pub without : ℕ → Around → Around
 without count at = record { locals = drop count at.locals; table = at.table }
 
--- the names, bound to these variables, stand around a place inside, and nothing more than what stands around the outer place
+-- a place around which these names are bound to these variables, `outer` and `around` being what is around them
 pub record Inside (names : List (List ℕ)) (at outer : Around) (around : Scope) (bound : List Name) (fresh : Fresh) : Type 0 where
   pub scope : IsScope names at (within around bound)
   pub vars : vars_of at ≡ variables_of fresh ++ vars_of outer
