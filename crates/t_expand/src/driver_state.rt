@@ -8,19 +8,22 @@ use t_core::Core;
 use t_forms::{Forms, Scope};
 use t_rows::Refusal;
 
-/// The nodes of a form with the spans of the data that they stand for. Contracts see both lists.
+/// The nodes of a form with the spans of the data that they stand for, as many. Contracts see both lists.
 #[derive(Drop)]
 pub struct NodeList {
-    entries: Vec<(Core, Span)>,
+    nodes: Vec<Core>,
+    spans: Vec<Span>,
 }
 
 impl Model for NodeList {
-    ghost use Rattle.std.specs.Prelude.{map};
+    ghost use Rattle.std.specs.Prelude.{◌≡◌, length};
     ghost use Rattle.t_expand.specs.Meaning.{Nodes};
 
     ghost Value = { Nodes };
 
-    ghost view = { λ n. record { nodes = map (λ e. e.0) n.entries.items; spans = map (λ e. e.1) n.entries.items } };
+    ghost view = { λ n. record { nodes = n.nodes.items; spans = n.spans.items } };
+
+    ghost invariant = { λ n. length n.spans.items ≡ length n.nodes.items };
 }
 
 impl NodeList {
@@ -30,7 +33,8 @@ impl NodeList {
         ensures spans { result.spans ≡ [] }
     {
         NodeList {
-            entries: Vec::new(alloc),
+            nodes: Vec::new(alloc),
+            spans: Vec::new(alloc),
         }
     }
 
@@ -41,27 +45,28 @@ impl NodeList {
         ensures nodes { OnOk result (self.new.nodes ≡ self.old.nodes ++ node ∷ []) }
         ensures spans { OnOk result (self.new.spans ≡ self.old.spans ++ span ∷ []) }
     {
-        let key = self.entries.len();
+        let key = self.nodes.len();
         if key >= u32::MAX as usize {
             return Err(Memory);
         }
-        self.entries.push((node, span))?;
-        Ok(key as u32)
+        self.spans.push(span)?;
+        match self.nodes.push(node) {
+            Ok(()) => Ok(key as u32),
+            Err(_) => {
+                self.spans.pop();
+                Err(Memory)
+            }
+        }
     }
 
     /// The nodes and their spans.
-    pub fn into_lists(self, alloc: Global) -> Result<(Vec<Core>, Vec<Span>), Memory>
-        ensures nodes { IfOk result (λ lists. lists.0.items ≡ self.nodes) }
-        ensures spans { IfOk result (λ lists. lists.1.items ≡ self.spans) }
-        ensures lengths { IfOk result (λ lists. length lists.1.items ≡ length lists.0.items) }
+    pub fn into_lists(self) -> (Vec<Core>, Vec<Span>)
+        ensures nodes { result.0.items ≡ self.nodes }
+        ensures spans { result.1.items ≡ self.spans }
+        ensures lengths { length result.1.items ≡ length result.0.items }
     {
-        let mut nodes = Vec::new(alloc);
-        let mut spans = Vec::new(alloc);
-        'entries: for (node, span) in self.entries {
-            nodes.push(node)?;
-            spans.push(span)?;
-        }
-        Ok((nodes, spans))
+        let NodeList { nodes, spans } = self;
+        (nodes, spans)
     }
 }
 

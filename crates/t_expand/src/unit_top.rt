@@ -137,7 +137,7 @@ impl Expansion {
         self.nodes = NodeList::new(alloc);
         let root = self.expand_form(key)?;
         let made = mem::replace(&mut self.nodes, NodeList::new(alloc));
-        let (nodes, spans) = made.into_lists(alloc)?;
+        let (nodes, spans) = made.into_lists();
         Ok(Rooted { nodes, spans, root })
     }
 

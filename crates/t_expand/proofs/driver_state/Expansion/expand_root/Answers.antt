@@ -18,5 +18,5 @@ returns-clause-refused c d defined ready held =
 pub returns-clause-meant : goal.returns-clause-meant
 returns-clause-meant c d defined ready held none later grown =
     let x = c.in_ok-root.ensures.expands d (top_scope defined) ready.distinct held ready.scope in
-    root_means defined c.expand_form.new.self.shared later c.expand_form.new.self.nodes c.in_ok-nodes.nodes.items c.in_ok-nodes.spans.items
-    (vars_of c.args.self.now.scope) d c.in_ok-root.root (cc c.in_ok-nodes.ensures.nodes) (cc c.in_ok-nodes.ensures.spans) (no_vars c.args.self.now defined ready) grown (x.means none)
+    root_means defined c.expand_form.new.self.shared later c.expand_form.new.self.nodes c.into_lists-nodes.result.0.items c.into_lists-nodes.result.1.items
+    (vars_of c.args.self.now.scope) d c.in_ok-root.root (cc c.into_lists-nodes.ensures.nodes) (cc c.into_lists-nodes.ensures.spans) (no_vars c.args.self.now defined ready) grown (x.means none)
