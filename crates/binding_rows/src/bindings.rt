@@ -65,7 +65,7 @@ pub fn let_star_row(forms: &mut Forms, span: Span, items: u32) -> Result<Row, Me
 fn value_parts(forms: &Forms, bindings: &[Binding]) -> Result<Vec<Part>, Memory>
     ensures { (names : List (List ℕ)) (xs : List SpecBinding) → AllZip (IsBinding names forms.now) bindings.now xs → IfOk result (λ parts. AllZip (IsPart names forms.now) parts.items (map (λ x. plain x.value) xs)) }
 {
-    let mut parts = Vec::new(forms.alloc());
+    let mut parts = Vec::with_capacity(forms.alloc(), bindings.len().saturating_add(1))?;
     'bindings: for binding in bindings {
         parts.push(Part {
             binds: Binds::Names(Vec::new(forms.alloc())),

@@ -12,6 +12,7 @@ use t_forms::{Form, Forms, New};
 use t_objects::Word;
 use t_rows::Row;
 use t_rows::lists::{Few, few_items, items_of, split, word_of};
+use t_rows::making::made;
 use t_rows::nodes::{no_row, rewritten, stands_for, stands_for_atom};
 use t_rows::templates::{Piece, written};
 use t_rows::words::body;
@@ -53,30 +54,34 @@ pub fn or_row(forms: &mut Forms, span: Span, items: u32) -> Result<Row, Memory>
         None => stands_for_atom(forms, span, Form::Nil),
         Some((a, others)) => match split(forms, others) {
             None => stands_for(forms, a),
-            Some(_) => rewritten(
-                forms,
-                span,
-                &[a],
-                &[others],
-                &[
-                    Piece::Word(Word::Let),
-                    Piece::Open,
-                    Piece::Open,
-                    Piece::Variable(New::Answer),
-                    Piece::Given(0),
-                    Piece::Close,
-                    Piece::Close,
-                    Piece::Open,
-                    Piece::Word(Word::If),
-                    Piece::Variable(New::Answer),
-                    Piece::Variable(New::Answer),
-                    Piece::Open,
-                    Piece::Word(Word::Or),
-                    Piece::Rest(0),
-                    Piece::Close,
-                    Piece::Close,
-                ],
-            ),
+            Some(_) => {
+                let u = made(forms, span, Form::Variable(New::Answer))?;
+                let row = rewritten(
+                    forms,
+                    span,
+                    &[a, u],
+                    &[others],
+                    &[
+                        Piece::Word(Word::Let),
+                        Piece::Open,
+                        Piece::Open,
+                        Piece::Given(1),
+                        Piece::Given(0),
+                        Piece::Close,
+                        Piece::Close,
+                        Piece::Open,
+                        Piece::Word(Word::If),
+                        Piece::Given(1),
+                        Piece::Given(1),
+                        Piece::Open,
+                        Piece::Word(Word::Or),
+                        Piece::Rest(0),
+                        Piece::Close,
+                        Piece::Close,
+                    ],
+                )?;
+                Ok(row)
+            }
         },
     }
 }

@@ -4,7 +4,7 @@ use Rattle.std.specs.Global.{Global}
 use Rattle.t_forms.specs.Names.{Bound}
 use Rattle.t_forms.specs.Data.{Datum}
 use Rattle.t_rows.specs.Rows.{define, lset, operation_form}
-use Rattle.t_expand.specs.Units.{Top, defining, broken, expression}
+use Rattle.expansion.specs.Units.{Top, defining, broken, expression}
 use Rattle.expand_laws.proofs.Fineness.{size_some}
 use Rattle.expand_laws.proofs.Joining.{none_made, more_made}
 use Rattle.expand_laws.proofs.Made.{Stock}

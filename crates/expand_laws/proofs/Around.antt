@@ -7,7 +7,7 @@ use Rattle.t_core.specs.declared.forms.Core.TheVariants as Node
 use Rattle.t_core.specs.declared.forms.Method.{Method}
 use Rattle.t_core.specs.Nodes.{Part, part, early, parts_of, binders_of}
 use Rattle.t_rows.proofs.ZipLemmas.{zip_append}
-use Rattle.t_expand.specs.Meaning.{Nodes}
+use Rattle.expansion.specs.Meaning.{Nodes}
 use Rattle.expand_laws.specs.Renaming.{Renaming, Renames, IsSameNode, AllAlike, no_parts, one_part}
 
 -- parts whose variables are related one by one

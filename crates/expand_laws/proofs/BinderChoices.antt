@@ -11,7 +11,7 @@ use Rattle.t_core.specs.Whole.{is_lambda_at}
 use Rattle.t_forms.specs.Data.{Datum, Name}
 use Rattle.t_forms.specs.Names.{Scope}
 use Rattle.t_rows.specs.Rows.{lambda, let_, labels, catch_, Part, plain, inside}
-use Rattle.t_expand.specs.Building.{numbered}
+use Rattle.expansion.specs.Lists.{numbered}
 use Rattle.expand_laws.proofs.Choices.{first, early_seats, early_seated, early_placed, early_count}
 use Rattle.expand_laws.proofs.Counting.{numbered_length}
 use Rattle.expand_laws.proofs.Few.{few_node}

@@ -14,7 +14,7 @@ use Rattle.t_core.specs.Whole.{IsShaped as IsNodeShaped}
 use Rattle.t_forms.specs.Data.{Datum}
 use Rattle.t_forms.specs.Names.{Scope, Bound}
 use Rattle.t_rows.specs.Rows.{Shape, constant, local, global, builtin_value, op_value, lambda, if_, block, set_local, set_global, call, primitive, Part, plain}
-use Rattle.t_expand.specs.Meaning.{Fits}
+use Rattle.expansion.specs.Meaning.{Fits}
 use Rattle.expand_laws.proofs.Constants.{constant_made}
 use Rattle.expand_laws.proofs.Costs.{shape_cost}
 use Rattle.expand_laws.proofs.Few.{IsFew, few_node}

@@ -16,20 +16,21 @@ use Rattle.t_prim.specs.SharedParts.{IsConst, StandsBelow, HasLowerParts}
 use Rattle.t_core.specs.declared.forms.Core.{Core}
 use Rattle.t_core.specs.declared.forms.Core.TheVariants as Node
 use Rattle.t_core.specs.Whole.{pair_in, pair_of}
-use Rattle.core_check.specs.Sound.{string_in, string_of}
+use Rattle.expansion.specs.Strings.{string_in, string_of}
 use Rattle.t_reader.specs.Grammar.{fix, char, nil, truth, string, symbol}
 use Rattle.t_reader.specs.Tokens.{IsFixnum}
 use Rattle.t_forms.specs.Data.{Atom, given, variable, builtin, operation, listing, Datum, atom, cons}
-use Rattle.t_expand.specs.Meaning.{IsQuoted}
-use Rattle.t_expand.proofs.QuotedLemmas.{Adds_trans, slice_get-Adds}
-use Rattle.expand_laws.proofs.Counting.{times, times_none, times_append, times_flat, Once, once_none, once_one, once_both, once_counted}
+use Rattle.expansion.specs.Meaning.{IsQuoted}
+use Rattle.expansion.proofs.Added.{Adds_trans, slice_get-Adds}
+use Rattle.expand_laws.proofs.Counting.{times_none, times_append, times_flat, once_none, once_one, once_both, once_counted}
+use Rattle.expansion.specs.Counting.{times, Once}
 use Rattle.expand_laws.proofs.Few.{IsFew}
 use Rattle.expand_laws.proofs.Gaining.{Gains, gains_none, gains_both, gains_as, stock_before, longer}
 use Rattle.expand_laws.proofs.Made.{IsRight, Stock, HasStock, strings_named, pairs_named}
 use Rattle.expand_laws.proofs.Reached.{IsPure}
 use Rattle.expand_laws.proofs.Sizes.{size}
 
-fixnum_in_range : (z : ℤ) → IsFixnum z → IsTrue (in_range z)
+pub fixnum_in_range : (z : ℤ) → IsFixnum z → IsTrue (in_range z)
 fixnum_in_range (pos n) h = let i = h.1 in grind (arith, ints, nat_tests)
 fixnum_in_range (negsuc n) h = let i = h.0 in grind (arith, ints, nat_tests)
 
@@ -166,7 +167,7 @@ push_cases (z ∷ xs) x y (suc k) e = next (push_cases xs x y k e)
     next (inl f) = inl f
     next (inr f) = inr (ap suc f.0, f.1)
 
-lower_push : (ps : List (Const × Const)) (p : Const × Const) → StandsBelow (length ps) p.0 → StandsBelow (length ps) p.1 → HasLowerParts ps → HasLowerParts (ps ++ p ∷ [])
+pub lower_push : (ps : List (Const × Const)) (p : Const × Const) → StandsBelow (length ps) p.0 → StandsBelow (length ps) p.1 → HasLowerParts ps → HasLowerParts (ps ++ p ∷ [])
 lower_push ps p a b h = record { parts_below = λ k q found. by k q (push_cases ps p q k found) }
   where
     by : (k : ℕ) (q : Const × Const) → (slice_get ps k ≡ Some q) ⊎ ((k ≡ length ps) × (q ≡ p)) → StandsBelow k q.0 × StandsBelow k q.1

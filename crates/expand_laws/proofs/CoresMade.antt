@@ -7,9 +7,9 @@ use Rattle.t_reader.specs.Unit.{IsWhole, HoldTrees}
 use Rattle.t_forms.specs.Data.{Datum, datum_of}
 use Rattle.t_forms.specs.Names.{Bound}
 use Rattle.t_rows.specs.declared.refusal.Refusal.{Refusal}
-use Rattle.t_expand.specs.Meaning.{top_scope}
-use Rattle.t_expand.specs.Refusals.{RefusedIn}
-use Rattle.t_expand.specs.Units.{tops_of, definitions_of}
+use Rattle.expansion.specs.Meaning.{top_scope}
+use Rattle.expansion.specs.Refusals.{RefusedIn}
+use Rattle.expansion.specs.Units.{tops_of, definitions_of}
 use Rattle.expand_laws.specs.Cores.{HasCore, HasFirstRefusal}
 use Rattle.expand_laws.proofs.Costs.{cost}
 use Rattle.expand_laws.proofs.Fine.{IsItem, IsFine, pure_item, pure_fine, listed_tail}
@@ -25,7 +25,7 @@ use Rattle.expand_laws.proofs.UnitMade.{unit_made}
 
 -- ---- forms
 
-made_values : (names : List (List ℕ)) → HasMadeValues (IsRight names)
+pub made_values : (names : List (List ℕ)) → HasMadeValues (IsRight names)
 made_values names = record { nil_right = tt; truth_right = tt; zero_right = (grind arith, grind arith); one_right = (grind arith, grind arith) }
 
 pure_items : (right : Value → Type 0) (ds : List Datum) → AllByRecursion (IsPure right) ds → AllByRecursion (IsItem right) ds
@@ -37,7 +37,7 @@ procedure_fine names d p =
     let right = IsRight names in
     subst (IsFine right) (sym p.is) (tt, (pure_item right p.params p.params_pure, listed_tail (made_values names) p.span p.body (pure_items right p.body p.body_pure)))
 
-form_fine : (names : List (List ℕ)) (d : Datum) → IsFormOf names d → IsFine (IsRight names) d
+pub form_fine : (names : List (List ℕ)) (d : Datum) → IsFormOf names d → IsFine (IsRight names) d
 form_fine names d (inl pure) = pure_fine (IsRight names) d pure
 form_fine names d (inr p) = procedure_fine names d p
 

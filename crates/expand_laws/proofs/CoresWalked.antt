@@ -4,8 +4,8 @@ use Rattle.t_base.specs.declared.basics.Span.{Span}
 use Rattle.t_core.specs.declared.forms.UnitCore.{UnitCore}
 use Rattle.t_reader.specs.Grammar.{Tree}
 use Rattle.t_forms.specs.Data.{datum_of}
-use Rattle.t_expand.specs.Units.{tops_of, definitions_of}
-use Rattle.t_expand.specs.Meaning.{IsCoreOf}
+use Rattle.expansion.specs.Units.{tops_of, definitions_of}
+use Rattle.expansion.specs.Meaning.{IsCoreOf}
 use Rattle.expand_laws.specs.Renaming.{FormsAlike}
 use Rattle.expand_laws.proofs.FormWalks.{FormsWalked, forms_walked}
 

@@ -7,10 +7,8 @@ use Rattle.std.proofs.lemmas.List.{map-append}
 use Rattle.std.proofs.lemmas.List.Concat.{flat_map-append}
 use Rattle.std.proofs.lemmas.List.Sums.{sum_by-cons, sum_by-append}
 use Rattle.t_base.specs.declared.basics.Var.{Var}
-use Rattle.t_expand.specs.Building.{numbered}
-
-pub times : ℕ → List ℕ → ℕ
-times k xs = count_by (λ x. x == k) xs
+use Rattle.expansion.specs.Counting.{times, Once}
+use Rattle.expansion.specs.Lists.{numbered}
 
 pub times_count : (k : ℕ) (xs : List ℕ) → count_by (λ x. x == k) xs ≡ times k xs
 unfolding times
@@ -61,11 +59,6 @@ times_there (x ∷ xs) (suc i) d lt =
     by k rest b e = omega (arith, times_cons k x xs b e)
 
 -- ---- at most once each, in a range
-
-pub record Once (low high : ℕ) (ks : List ℕ) : Type 0 where
-  pub below : (k : ℕ) → k < low → times k ks ≡ 0
-  pub above : (k : ℕ) → high ≤ k → times k ks ≡ 0
-  pub once : (k : ℕ) → times k ks ≤ 1
 
 pub once_none : (low high : ℕ) → Once low high []
 once_none low high = record { below = λ k h. times_none k; above = λ k h. times_none k; once = λ k. omega (arith, times_none k) }

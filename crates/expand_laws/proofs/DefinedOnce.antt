@@ -9,7 +9,7 @@ use Rattle.t_core.specs.declared.forms.FormKind.{FormKind}
 use Rattle.t_core.specs.declared.forms.FormKind.TheVariants as kind
 use Rattle.t_core.specs.declared.forms.Form.{Form}
 use Rattle.t_core.specs.Whole.{defines_global, defines_op}
-use Rattle.t_expand.specs.Units.{Top}
+use Rattle.expansion.specs.Units.{Top}
 use Rattle.expand_laws.proofs.Tables.{Tabled, no_more, a_define, an_lset, an_operation, an_expression}
 
 count_one : (test : FormKind → Bool) (f : Form) (fs : List Form) (k : FormKind) → f.kind ≡ k → test k ≡ true

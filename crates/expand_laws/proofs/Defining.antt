@@ -10,7 +10,7 @@ use Rattle.t_core.specs.declared.forms.FormKind.{FormKind}
 use Rattle.t_core.specs.declared.forms.FormKind.TheVariants as kind
 use Rattle.t_core.specs.declared.forms.Form.{Form}
 use Rattle.t_core.specs.Whole.{IsDefinition}
-use Rattle.t_expand.specs.Units.{Top}
+use Rattle.expansion.specs.Units.{Top}
 use Rattle.expand_laws.proofs.Tables.{Tabled, no_more, a_define, an_lset, an_operation, an_expression}
 
 -- ---- each form is a definition

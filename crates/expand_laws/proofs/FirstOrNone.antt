@@ -9,9 +9,9 @@ use Rattle.t_forms.specs.Names.{Scope, Bound}
 use Rattle.t_rows.specs.declared.refusal.Refusal.{Refusal}
 use Rattle.t_rows.specs.declared.refusal.SyntaxKind.TheVariants.{BadForm}
 use Rattle.t_rows.specs.Rows.{refusal, twice, Definition, define, lset, operation_form}
-use Rattle.t_expand.specs.Meaning.{top_scope}
-use Rattle.t_expand.specs.Refusals.{RefusedDefinition, twice_defined, RefusedTop, RefusedAmong, RefusedIn}
-use Rattle.t_expand.specs.Units.{Top, defining, broken, expression, tops_of, definitions_of, defined_name}
+use Rattle.expansion.specs.Meaning.{top_scope}
+use Rattle.expansion.specs.Refusals.{RefusedDefinition, twice_defined, RefusedTop, RefusedAmong, RefusedIn}
+use Rattle.expansion.specs.Units.{Top, defining, broken, expression, tops_of, definitions_of, defined_name}
 use Rattle.expand_laws.specs.Cores.{HasFirstRefusal}
 use Rattle.expand_laws.specs.Ends.{Ends}
 use Rattle.expand_laws.proofs.ListedRefusals.{Listed, listed_none, listed_contains, listed_same, listed_is, listed_either, First, first_of_listed}

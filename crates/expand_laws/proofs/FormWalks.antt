@@ -9,8 +9,8 @@ use Rattle.t_core.specs.declared.forms.FormKind.{FormKind}
 use Rattle.t_forms.specs.Data.{Datum}
 use Rattle.t_forms.specs.Names.{Meaning, Bound, a_global, an_op}
 use Rattle.t_rows.specs.Rows.{Definition, define, lset, operation_form}
-use Rattle.t_expand.specs.Meaning.{ValueMeans, RootMeans, IsKind, FormMeans, FormsMean, top_scope}
-use Rattle.t_expand.specs.Units.{Top, defining, broken, expression, meaning_of}
+use Rattle.expansion.specs.Meaning.{ValueMeans, RootMeans, IsKind, FormMeans, FormsMean, top_scope}
+use Rattle.expansion.specs.Units.{Top, defining, broken, expression, meaning_of}
 use Rattle.expand_laws.specs.Renaming.{Renaming, RootsAlike, FormsAlike, nodes_of}
 use Rattle.expand_laws.proofs.Collecting.{Includes, EachPair, Walked, each_of_both, no_pairs}
 use Rattle.expand_laws.proofs.Paired.{BoundIn, BoundTogether, at_roots}

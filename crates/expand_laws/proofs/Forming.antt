@@ -10,14 +10,15 @@ use Rattle.t_reader.specs.Grammar.{Value}
 use Rattle.t_forms.specs.Data.{Datum, Name}
 use Rattle.t_forms.specs.Names.{Scope, Bound, within}
 use Rattle.t_rows.specs.Rows.{node, Shape, constant, local, global, builtin_value, op_value, lambda, if_, block, let_, labels, set_local, set_global, catch_, object, call, primitive, nothing, Part, row}
-use Rattle.t_expand.specs.Meaning.{top_scope}
-use Rattle.t_expand.specs.Refusals.{Refused, in_form, at_form, in_part}
+use Rattle.expansion.specs.Meaning.{top_scope}
+use Rattle.expansion.specs.Refusals.{Refused, in_form, at_form, in_part}
 use Rattle.expand_laws.proofs.BinderChoices.{lambda_choice, catch_choice, let_choice, labels_choice}
 use Rattle.expand_laws.proofs.Choices.{constant_choice, local_choice, global_choice, builtin_choice, op_choice, if_choice, block_choice, set_local_choice, set_global_choice, call_choice, primitive_choice}
 use Rattle.expand_laws.proofs.Costs.{cost, all_cost}
 use Rattle.expand_laws.proofs.Counting.{once_pairs, once_between}
 use Rattle.expand_laws.proofs.Few.{few_more}
-use Rattle.expand_laws.proofs.Made.{Stock, FormMadeWithin, IsRight, numbers, strings_named, pairs_named}
+use Rattle.expand_laws.proofs.Made.{Stock, FormMadeWithin, IsRight, strings_named, pairs_named}
+use Rattle.expansion.specs.Counting.{numbers}
 use Rattle.expand_laws.proofs.ObjectChoice.{object_choice}
 use Rattle.expand_laws.proofs.Placing.{Seat, sits_all, is_tree}
 use Rattle.expand_laws.proofs.Reached.{HasBuiltinOps, IsRightShape, Comes, to_form, to_node, AllCome, no_parts, one_part, IsShaped}

@@ -3,8 +3,8 @@ use Rattle.std.proofs.Common.{ℕ, List}
 use Rattle.t_rows.specs.declared.refusal.Refusal.{Refusal}
 use Rattle.t_forms.specs.Data.{Datum}
 use Rattle.t_forms.specs.Names.{Bound}
-use Rattle.t_expand.specs.Meaning.{top_scope}
-use Rattle.t_expand.specs.Refusals.{Refused}
+use Rattle.expansion.specs.Meaning.{top_scope}
+use Rattle.expansion.specs.Refusals.{Refused}
 use Rattle.expand_laws.proofs.Costs.{cost}
 use Rattle.expand_laws.proofs.Forming.{RowsShaped, form_made}
 use Rattle.expand_laws.proofs.Made.{Stock, FormMadeWithin, IsRight}

@@ -11,11 +11,13 @@ use Rattle.t_prim.specs.SharedParts.{IsConst, HasLowerParts}
 use Rattle.t_core.specs.declared.forms.Core.{Core}
 use Rattle.t_core.specs.Nodes.{binders_of}
 use Rattle.t_core.specs.Whole.{pair_in, pair_of}
-use Rattle.core_check.specs.Sound.{string_in, string_of}
-use Rattle.t_expand.specs.Building.{numbered}
-use Rattle.t_expand.proofs.QuotedLemmas.{Adds_trans}
-use Rattle.expand_laws.proofs.Counting.{times, times_append, times_flat, times_mapped, Once, once_none, once_both, once_counted, once_numbered}
-use Rattle.expand_laws.proofs.Made.{Stock, HasStock, numbers, strings_named, pairs_named}
+use Rattle.expansion.specs.Strings.{string_in, string_of}
+use Rattle.expansion.specs.Lists.{numbered}
+use Rattle.expansion.proofs.Added.{Adds_trans}
+use Rattle.expand_laws.proofs.Counting.{times_append, times_flat, times_mapped, once_none, once_both, once_counted, once_numbered}
+use Rattle.expansion.specs.Counting.{times, Once}
+use Rattle.expand_laws.proofs.Made.{Stock, HasStock, strings_named, pairs_named}
+use Rattle.expansion.specs.Counting.{numbers}
 
 -- how often a place is named, in two lists of nodes and pairs
 named_sum : (at : Const → List ℕ) (of : Core → List ℕ) (k : ℕ) (xs ys : List Core) (ps qs : List (Const × Const))

@@ -13,12 +13,13 @@ use Rattle.t_core.specs.declared.forms.Core.{Core}
 use Rattle.t_core.specs.declared.forms.Form.{Form}
 use Rattle.t_core.specs.Nodes.{binders_of}
 use Rattle.t_core.specs.Whole.{HasPlaces, HasShapes, pair_in, pair_of}
-use Rattle.core_check.specs.Sound.{string_in, string_of}
+use Rattle.expansion.specs.Strings.{string_in, string_of}
 use Rattle.t_forms.specs.Names.{Bound}
-use Rattle.t_expand.specs.Meaning.{TopMeans}
-use Rattle.t_expand.specs.Quoting.{Adds}
-use Rattle.t_expand.specs.Units.{Top, defining, broken, expression}
-use Rattle.expand_laws.proofs.Made.{Stock, HasStock, numbers}
+use Rattle.expansion.specs.Meaning.{TopMeans}
+use Rattle.expansion.specs.Lists.{Adds}
+use Rattle.expansion.specs.Units.{Top, defining, broken, expression}
+use Rattle.expand_laws.proofs.Made.{Stock, HasStock}
+use Rattle.expansion.specs.Counting.{numbers}
 use Rattle.expand_laws.proofs.Once.{once_none, once_join, times, times_append, times_mixed}
 use Rattle.expand_laws.proofs.Shortness.{IsShort, vec_of}
 use Rattle.expand_laws.proofs.TopsMade.{TopMade, AllMade, TopStands, HasKind, kind_of, unit_named}

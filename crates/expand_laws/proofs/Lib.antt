@@ -25,6 +25,7 @@ pub mod Counting
 pub mod DataSizes
 pub mod DefinedOnce
 pub mod Defining
+pub mod DistinctVariables
 pub mod DoRows
 pub mod Few
 pub mod Fine
@@ -34,6 +35,7 @@ pub mod FormWalks
 pub mod Forming
 pub mod FormsBeside
 pub mod FormsMade
+pub mod FormsWhole
 pub mod Gaining
 pub mod Greatest
 pub mod Joining
@@ -47,12 +49,15 @@ pub mod MethodShapes
 pub mod NameShapes
 pub mod Named
 pub mod NodeShapes
+pub mod NodesReached
+pub mod NodesWhole
 pub mod Numbering
 pub mod ObjectChoice
 pub mod Once
 pub mod OneToOne
 pub mod OneTop
 pub mod Paired
+pub mod PartsWhole
 pub mod Placing
 pub mod Premises
 pub mod PureForms
@@ -77,6 +82,8 @@ pub mod TopsFine
 pub mod TopsMade
 pub mod TreeSums
 pub mod UnitMade
+pub mod UnitTables
 pub mod Walking
 pub mod Weights
+pub mod WholeUnits
 pub mod Worths

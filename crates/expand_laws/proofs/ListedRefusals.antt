@@ -3,9 +3,9 @@ use Rattle.std.proofs.Common.{◌≡◌, ◌⊎◌, inl, inr, ℕ, zero, suc, �
 use Rattle.std.proofs.lemmas.Bool.{cases_lt}
 use Rattle.std.proofs.lemmas.List.Elements.{Contains-append_left, Contains-append_right, Contains-append_cases}
 use Rattle.t_rows.specs.declared.refusal.Refusal.{Refusal}
-use Rattle.t_expand.specs.Refusals.{Precedes, number}
-use Rattle.t_expand.proofs.FirstLemmas.{contains_none}
-use Rattle.t_expand.proofs.RefusalLemmas.{precedes_self, precedes_through}
+use Rattle.expansion.specs.Refusals.{Precedes, number}
+use Rattle.expansion.proofs.Places.{contains_none}
+use Rattle.expansion.proofs.Places.{precedes_self, precedes_through}
 
 -- ---- elements
 

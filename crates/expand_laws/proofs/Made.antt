@@ -1,5 +1,5 @@
 -- What the nodes of one form are, made from its datum, and what they add to the shared parts of a unit.
-use Rattle.std.specs.Prelude.{◌≡◌, ◌≢◌, ℕ, ◌<◌, ◌≤◌, ◌++◌, Bool, true, false, List, [], ◌∷◌, length, map, slice_get, All, AllPairs, Some}
+use Rattle.std.specs.Prelude.{◌≡◌, ◌≢◌, ℕ, ◌<◌, ◌≤◌, ◌++◌, Bool, true, false, List, [], ◌∷◌, length, slice_get, All, AllPairs, Some}
 use Rattle.std.specs.List.{flat_map}
 use Rattle.std.specs.Option.{option_map}
 use Rattle.t_base.specs.declared.basics.Span.{Span}
@@ -12,14 +12,15 @@ use Rattle.t_core.specs.declared.forms.Core.{Core}
 use Rattle.t_core.specs.declared.forms.Core.TheVariants as Node
 use Rattle.t_core.specs.Nodes.{binders_of}
 use Rattle.t_core.specs.Whole.{NamesAreThere, IsTree, IsScopedWithin, IsShaped, pair_in, pair_of}
-use Rattle.core_check.specs.Sound.{string_in, string_of}
+use Rattle.expansion.specs.Strings.{string_in, string_of}
 use Rattle.t_reader.specs.Grammar.{Value, fix, char, nil, truth, string, symbol}
 use Rattle.t_reader.specs.Tokens.{IsFixnum}
 use Rattle.t_forms.specs.Data.{Datum, Name}
 use Rattle.t_forms.specs.Names.{Bound}
 use Rattle.t_rows.specs.Rows.{node, lambda, inside, row}
-use Rattle.t_expand.specs.Meaning.{Means, top_scope}
-use Rattle.t_expand.specs.Quoting.{Adds}
+use Rattle.expansion.specs.Meaning.{Means, top_scope}
+use Rattle.expansion.specs.Lists.{Adds}
+use Rattle.expansion.specs.Counting.{numbers}
 use Rattle.expand_laws.proofs.Reached.{IsDefinedGlobal, IsUnitOp}
 
 -- a number or a byte is in its range, and a symbol is among the names
@@ -57,9 +58,6 @@ AreBetween low high ks = All (λ k. (low ≤ k) × (k < high)) ks
 -- no number stands twice
 abbrev pub AreDistinct : List ℕ → Type 0
 AreDistinct ks = AllPairs (λ j k. j ≢ k) ks
-
-abbrev pub numbers : List Var → List ℕ
-numbers vars = map (λ v. v.0) vars
 
 -- the places of strings, and of pairs, that nodes and pairs name
 abbrev pub strings_named : List Core → List (Const × Const) → List ℕ

@@ -9,7 +9,7 @@ use Rattle.t_forms.specs.Builtins.{builtin_named}
 use Rattle.t_forms.specs.Data.{Name, written, made, is_same_name}
 use Rattle.t_forms.specs.Names.{Meaning, a_local, a_global, an_op, the_builtin, the_operation, the_truth, the_listing, none, Bound, Scope, bound, or_else, operation_names, beyond, place_from, defined_as, meaning}
 use Rattle.t_rows.specs.Rows.{name_row}
-use Rattle.t_expand.specs.Units.{Top, Entry, is_global, is_assigned, entries_of, meanings_from, definitions_of}
+use Rattle.expansion.specs.Units.{Top, Entry, is_global, is_assigned, entries_of, meanings_from, definitions_of}
 use Rattle.expand_laws.proofs.Reached.{IsDefinedGlobal, IsUnitOp}
 use Rattle.expand_laws.proofs.RowShapes.{RowShaped}
 

@@ -10,7 +10,7 @@ use Rattle.t_base.specs.declared.shared_parts.OpInfo.{OpInfo}
 use Rattle.t_base.specs.declared.shared_parts.Shared.{Shared}
 use Rattle.t_core.specs.declared.forms.Form.{Form}
 use Rattle.t_forms.specs.Names.{Meaning, Bound, a_global, an_op}
-use Rattle.t_expand.specs.Units.{Top, entry, meanings_from}
+use Rattle.expansion.specs.Units.{Top, entry, meanings_from}
 use Rattle.expand_laws.proofs.Defining.{IsSplit, global_at, op_at, past_global, past_op}
 use Rattle.expand_laws.proofs.Made.{HasDefined}
 use Rattle.expand_laws.proofs.Numbering.{definitions}

@@ -15,10 +15,10 @@ use Rattle.t_forms.specs.Names.{Meaning, Bound, bound, a_global, an_op, defined_
 use Rattle.t_rows.specs.declared.refusal.Refusal.{Refusal}
 use Rattle.t_rows.specs.declared.refusal.SyntaxKind.TheVariants.{Twice}
 use Rattle.t_rows.specs.Rows.{Definition, define, lset, operation_form, refusal}
-use Rattle.t_expand.specs.Meaning.{IsKind}
-use Rattle.t_expand.specs.Refusals.{RefusedTop, RefusedAmong, twice_defined}
-use Rattle.t_expand.specs.Units.{Top, defining, broken, expression, Entry, entry, defined_name, names_of, names_defined, has_entry, with_top, with_definition, entries_of, meanings_from, definitions_of, meaning_of}
-use Rattle.t_expand.proofs.TopLemmas.{names_last}
+use Rattle.expansion.specs.Meaning.{IsKind}
+use Rattle.expansion.specs.Refusals.{RefusedTop, RefusedAmong, twice_defined}
+use Rattle.expansion.specs.Units.{Top, defining, broken, expression, Entry, entry, defined_name, names_of, names_defined, has_entry, with_top, with_definition, entries_of, meanings_from, definitions_of, meaning_of}
+use Rattle.expansion.proofs.Places.{names_last}
 use Rattle.expand_laws.proofs.TopsMade.{HasKinds, kind_meant}
 
 -- ---- nothing is refused
@@ -28,7 +28,7 @@ abbrev pub AreClean : List Bound → List Top → List Top → Type 0
 AreClean defined before [] = Unit {0}
 AreClean defined before (t ∷ ts) = ((r : Refusal) → RefusedTop defined before t r → ⊥) × AreClean defined (before ++ t ∷ []) ts
 
-at_seam : {A : Type 0} (xs ys : List A) (x : A) → slice_get (xs ++ x ∷ ys) (length xs) ≡ Some x
+pub at_seam : {A : Type 0} (xs ys : List A) (x : A) → slice_get (xs ++ x ∷ ys) (length xs) ≡ Some x
 at_seam [] ys x = refl
 at_seam (z ∷ xs) ys x = at_seam xs ys x
 

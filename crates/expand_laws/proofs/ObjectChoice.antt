@@ -10,7 +10,7 @@ use Rattle.t_core.specs.Nodes.{early, part}
 use Rattle.t_forms.specs.Data.{Datum}
 use Rattle.t_forms.specs.Names.{Scope, Bound}
 use Rattle.t_rows.specs.Rows.{lambda, object, Part, plain}
-use Rattle.t_expand.specs.Building.{numbered}
+use Rattle.expansion.specs.Lists.{numbered}
 use Rattle.expand_laws.proofs.Choices.{first, rest, known_op}
 use Rattle.expand_laws.proofs.Counting.{numbered_length, numbered_append}
 use Rattle.expand_laws.proofs.Few.{few_node}

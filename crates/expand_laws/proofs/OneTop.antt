@@ -19,10 +19,11 @@ use Rattle.t_forms.proofs.Lists.{items_listed}
 use Rattle.t_rows.specs.declared.refusal.Refusal.{Refusal}
 use Rattle.t_rows.specs.Rows.{Definition, define, lset, operation_form, lambda_form, lambda_row, row, node, lambda, inside, body, twice, if_formed, items_row, word_, Part, refusal}
 use Rattle.t_rows.specs.declared.refusal.SyntaxKind.TheVariants.{BadForm}
-use Rattle.t_expand.specs.Meaning.{Nodes, RootMeans, top_scope}
-use Rattle.t_expand.specs.Refusals.{Refused, at_form, RefusedTop}
-use Rattle.t_expand.specs.Units.{Top, defining, broken, expression}
-use Rattle.expand_laws.proofs.Made.{Stock, FormMade, numbers, strings_named, pairs_named}
+use Rattle.expansion.specs.Meaning.{Nodes, RootMeans, top_scope}
+use Rattle.expansion.specs.Refusals.{Refused, at_form, RefusedTop}
+use Rattle.expansion.specs.Units.{Top, defining, broken, expression}
+use Rattle.expand_laws.proofs.Made.{Stock, FormMade, strings_named, pairs_named}
+use Rattle.expansion.specs.Counting.{numbers}
 use Rattle.expand_laws.proofs.Once.{once_none, once_of}
 use Rattle.expand_laws.proofs.Premises.{IsFormOf, Makes, MakesForms}
 use Rattle.expand_laws.proofs.Sizes.{size}
@@ -114,7 +115,7 @@ not_twice : (scope : Scope) (d : Datum) (rs : List Refusal) (parts : List Part) 
 not_twice scope d [] parts e none = refl
 not_twice scope d (r ∷ rs) parts e none = absurd (none r (at_form scope d r lambda (r ∷ rs) parts e (Contains-append_left (r ∷ []) rs r (Contains-push [] r))))
 
-default_row : (defined : List Bound) (ps : List Binder) (d : Datum) (f : IsDefaultForm ps d) → ((r : Refusal) → Refused (top_scope defined) d r → ⊥)
+pub default_row : (defined : List Bound) (ps : List Binder) (d : Datum) (f : IsDefaultForm ps d) → ((r : Refusal) → Refused (top_scope defined) d r → ⊥)
     → row (top_scope defined) d ≡ node lambda [] (inside (names ps) (body f.span (f.first ∷ f.others)) ∷ [])
 default_row defined ps d f none =
     let whole : row (top_scope defined) d ≡ node lambda (twice ps) (inside (names ps) (body f.span (f.first ∷ f.others)) ∷ []) =
@@ -122,7 +123,7 @@ default_row defined ps d f none =
     let empty = not_twice (top_scope defined) d (twice ps) (inside (names ps) (body f.span (f.first ∷ f.others)) ∷ []) whole none in
     whole ∙ ap (λ rs. node lambda rs (inside (names ps) (body f.span (f.first ∷ f.others)) ∷ [])) empty
 
-self_there : (params : List Var) (body : ℕ) → 0 < length params → IsTrue (has_self (Node.Lambda params body))
+pub self_there : (params : List Var) (body : ℕ) → 0 < length params → IsTrue (has_self (Node.Lambda params body))
 self_there [] body less = absurd (omega (arith, less))
 self_there (v ∷ params) body less = refl
 

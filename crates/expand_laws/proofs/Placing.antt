@@ -10,8 +10,10 @@ use Rattle.t_core.specs.declared.forms.Core.{Core}
 use Rattle.t_core.specs.declared.forms.Core.TheVariants as Node
 use Rattle.t_core.specs.Nodes.{Part, part, early, block_parts, parts_of, places_of}
 use Rattle.t_core.specs.Whole.{IsTree}
-use Rattle.t_expand.proofs.QuotedLemmas.{slice_get-append}
-use Rattle.expand_laws.proofs.Counting.{times, times_count, times_none, times_append, times_flat, times_one, times_not_one}
+use Rattle.expansion.proofs.Added.{slice_get-append}
+use Rattle.expansion.specs.Trees.{StandBefore, Grown}
+use Rattle.expand_laws.proofs.Counting.{times_count, times_none, times_append, times_flat, times_one, times_not_one}
+use Rattle.expansion.specs.Counting.{times}
 
 -- the items stand in the list one behind the other, from the start on
 pub record Sits {A : Type 0} (start : ℕ) (xs all : List A) : Type 0 where
@@ -91,12 +93,7 @@ places_by_parts c tail seats ks e f = tail_places c tail ∙ ap (map (λ (p : Pa
 
 -- ---- trees
 
--- the parts of each node stand before it, where the first one stands at this place
-abbrev pub StandBefore : ℕ → List Core → Type 0
-StandBefore start [] = Unit {0}
-StandBefore start (c ∷ cs) = All (λ place. place < start) (places_of c) × StandBefore (suc start) cs
-
-before_append : (start : ℕ) (xs ys : List Core) → StandBefore start xs → StandBefore (start + length xs) ys → StandBefore start (xs ++ ys)
+pub before_append : (start : ℕ) (xs ys : List Core) → StandBefore start xs → StandBefore (start + length xs) ys → StandBefore start (xs ++ ys)
 before_append start [] ys h i = let e : start + 0 ≡ start = omega arith in rw e at i
 before_append start (x ∷ xs) ys h i =
     let e : start + suc (length xs) ≡ suc start + length xs = omega arith in
@@ -111,14 +108,6 @@ before_at start (x ∷ xs) zero c h e =
 before_at start (x ∷ xs) (suc k) c h e =
     let f : start + suc k ≡ suc start + k = omega arith in
     rw f (before_at (suc start) xs k c h.1 e)
-
--- The nodes of parts, whose roots are these: each is a root or a part of another of them, and so just once.
-pub record Grown (start : ℕ) (nodes : List Core) (roots : List ℕ) : Type 0 where
-  pub before : StandBefore start nodes
-  pub within : All (λ k. k < start + length nodes) roots
-  pub below : (k : ℕ) → k < start → times k (flat_map places_of nodes) + times k roots ≡ 0
-  pub above : (k : ℕ) → start + length nodes ≤ k → times k (flat_map places_of nodes) + times k roots ≡ 0
-  pub once : (k : ℕ) → start ≤ k → k < start + length nodes → times k (flat_map places_of nodes) + times k roots ≡ 1
 
 pub grown_none : (start : ℕ) → Grown start [] []
 grown_none start = record {

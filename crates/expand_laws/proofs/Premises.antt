@@ -6,8 +6,8 @@ use Rattle.t_rows.specs.declared.refusal.Refusal.{Refusal}
 use Rattle.t_rows.specs.Rows.{lambda_form}
 use Rattle.t_forms.specs.Data.{Datum}
 use Rattle.t_forms.specs.Names.{Bound}
-use Rattle.t_expand.specs.Meaning.{top_scope}
-use Rattle.t_expand.specs.Refusals.{Refused}
+use Rattle.expansion.specs.Meaning.{top_scope}
+use Rattle.expansion.specs.Refusals.{Refused}
 use Rattle.expand_laws.proofs.Made.{IsRight, Stock, FormMade}
 use Rattle.expand_laws.proofs.Reached.{IsPure}
 use Rattle.expand_laws.proofs.Sizes.{size}

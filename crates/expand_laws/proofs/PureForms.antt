@@ -8,7 +8,7 @@ use Rattle.t_objects.specs.declared.words.Word.{Word}
 use Rattle.t_objects.specs.declared.words.Word.TheVariants as word
 use Rattle.t_forms.specs.Data.{Datum, atom, cons, datum_of, items_of, listed, span_of, word_of, binder_of, binders_of}
 use Rattle.t_rows.specs.Rows.{lambda_form, Definition, define, lset, operation_form, define_procedure, define_of, lset_of, default_of, define_operation_with, define_operation_of, definition_of_word}
-use Rattle.t_expand.specs.Units.{Top, defining, broken, expression, defining_or_broken, defines, definition_of_items, definition_in, top_of, is_herald_items, without_herald, tops_of}
+use Rattle.expansion.specs.Units.{Top, defining, broken, expression, defining_or_broken, defines, definition_of_items, definition_in, top_of, is_herald_items, without_herald, tops_of}
 use Rattle.expand_laws.proofs.Reached.{IsPure}
 use Rattle.expand_laws.proofs.RowShapes.{items_if, each_map}
 

@@ -9,7 +9,7 @@ use Rattle.t_core.specs.declared.forms.Core.{Core}
 use Rattle.t_core.specs.declared.forms.Form.{Form}
 use Rattle.t_core.specs.Nodes.{Part, parts_of, places_of}
 use Rattle.t_core.specs.Whole.{IsTree}
-use Rattle.t_expand.specs.Meaning.{Nodes}
+use Rattle.expansion.specs.Meaning.{Nodes}
 use Rattle.expand_laws.specs.Renaming.{Renaming, Renames, IsSameNode, Alike, AllAlike, alike, no_parts, one_part, nodes_of}
 use Rattle.expand_laws.proofs.Beside.{place_of_part, part_of_place}
 use Rattle.expand_laws.proofs.CountedOnce.{IsThere, counted_there}

@@ -9,7 +9,7 @@ use Rattle.t_core.specs.declared.forms.Form.{Form}
 use Rattle.t_core.specs.declared.forms.UnitCore.{UnitCore}
 use Rattle.t_core.specs.Counts.{form_count}
 use Rattle.t_core.specs.Limits.{greatest}
-use Rattle.t_expand.specs.Units.{Top, definitions_of, meanings_from}
+use Rattle.expansion.specs.Units.{Top, definitions_of, meanings_from}
 use Rattle.expand_laws.proofs.AllTops.{few_tops}
 use Rattle.expand_laws.proofs.Defining.{IsSplit}
 use Rattle.expand_laws.proofs.Made.{Stock, HasStock, HasDefined}

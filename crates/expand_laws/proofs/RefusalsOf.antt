@@ -5,9 +5,9 @@ use Rattle.t_forms.specs.Data.{Datum}
 use Rattle.t_forms.specs.Names.{Scope, within}
 use Rattle.t_rows.specs.declared.refusal.Refusal.{Refusal}
 use Rattle.t_rows.specs.Rows.{stands_for, node, Shape, Part, row}
-use Rattle.t_expand.specs.Refusals.{Refused, in_form, at_form, in_part}
-use Rattle.t_expand.proofs.FirstLemmas.{contains_none}
-use Rattle.t_expand.proofs.RefusalLemmas.{none_in}
+use Rattle.expansion.specs.Refusals.{Refused, in_form, at_form, in_part}
+use Rattle.expansion.proofs.Places.{contains_none}
+use Rattle.expansion.proofs.Places.{none_in}
 use Rattle.expand_laws.specs.Ends.{Ends, as_form, as_node, AllEnd, no_parts, one_part}
 use Rattle.expand_laws.proofs.ListedRefusals.{Listed, contains_cases, contains_first, contains_later}
 

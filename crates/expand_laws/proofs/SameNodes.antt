@@ -11,7 +11,7 @@ use Rattle.t_core.specs.declared.forms.Method.{Method}
 use Rattle.t_reader.specs.Grammar.{fix, char, nil, truth, string, symbol}
 use Rattle.t_forms.specs.Data.{Datum, atom, cons, given, variable, builtin, operation, listing}
 use Rattle.t_rows.specs.Rows.{Shape, constant, local, global, builtin_value, op_value, lambda, if_, block, let_, labels, set_local, set_global, catch_, object, call, primitive}
-use Rattle.t_expand.specs.Meaning.{Fits, IsQuoted}
+use Rattle.expansion.specs.Meaning.{Fits, IsQuoted}
 use Rattle.expand_laws.specs.Renaming.{IsSameConst, IsSameNode, fix as same_fix, char as same_char, nil as same_nil, truth as same_truth, string as same_string, symbol as same_symbol, pair as same_pair}
 
 -- ---- constants

@@ -17,12 +17,13 @@ use Rattle.t_core.specs.Whole.{IsShaped as IsNodeShaped}
 use Rattle.t_forms.specs.Data.{Datum, Name, span_of}
 use Rattle.t_forms.specs.Names.{Scope, within}
 use Rattle.t_rows.specs.Rows.{stands_for, node, Shape, lambda, Part, inside, row}
-use Rattle.t_expand.specs.Meaning.{Fits, Nodes, Means, as_form, as_node, AllMean, no_parts, one_part}
+use Rattle.expansion.specs.Meaning.{Fits, Nodes, Means, as_form, as_node, AllMean, no_parts, one_part}
 use Rattle.expand_laws.proofs.Costs.{shape_cost}
 use Rattle.expand_laws.proofs.Few.{IsFew, few_none, few_both, few_counted}
 use Rattle.expand_laws.proofs.Gaining.{Gains, gains_none, gains_both, gains_swapped, stock_before}
 use Rattle.expand_laws.proofs.Made.{Stock, HasStock, HasDefined}
-use Rattle.expand_laws.proofs.Placing.{Sits, sits_front, sits_back, sits_last, Seat, placed, places_by_parts, Grown, grown_none, grown_more, grown_node}
+use Rattle.expand_laws.proofs.Placing.{Sits, sits_front, sits_back, sits_last, Seat, placed, places_by_parts, grown_none, grown_more, grown_node}
+use Rattle.expansion.specs.Trees.{Grown}
 use Rattle.expand_laws.proofs.Reached.{IsLambdaForm}
 
 -- the nodes of a form in the scope where the local names mean these variables, from the start on, with a bound on what is made

@@ -16,7 +16,7 @@ use Rattle.t_core.specs.Whole.{DefinesAs, IsDefault, is_lambda_at}
 use Rattle.t_forms.specs.Data.{Datum, Binder, Name}
 use Rattle.t_forms.specs.Names.{Bound}
 use Rattle.t_rows.specs.Rows.{Definition, define, lset, operation_form}
-use Rattle.t_expand.specs.Units.{Top, defining, broken, expression, entry, is_global, text_of, texts, meaning_of}
+use Rattle.expansion.specs.Units.{Top, defining, broken, expression, entry, is_global, text_of, texts, meaning_of}
 use Rattle.expand_laws.proofs.Numbering.{definitions, own, AreNumbered}
 use Rattle.expand_laws.proofs.OneTop.{IsNamed, IsFineTop}
 use Rattle.expand_laws.proofs.TopsMade.{AreFilled, kind_meant}
@@ -63,7 +63,7 @@ unfolding defined_kind
 defines_as nodes root true e = e
 defines_as nodes root false e = e
 
-kept : (defined : List Bound) (d : Definition) (g o : ℕ) (k : FormKind) → k ≡ kind_meant (meaning_of defined d) → meaning_of defined d ≡ Some (own g o d) → k ≡ kind_meant (Some (own g o d))
+pub kept : (defined : List Bound) (d : Definition) (g o : ℕ) (k : FormKind) → k ≡ kind_meant (meaning_of defined d) → meaning_of defined d ≡ Some (own g o d) → k ≡ kind_meant (Some (own g o d))
 kept defined d g o k e m = e ∙ ap kind_meant m
 
 pub tabled : (names : List (List ℕ)) (defined : List Bound) (g o : ℕ) (ts : List Top) (fs : List Form) → AreFine names ts → AreFilled defined ts fs → AreNumbered defined g o ts

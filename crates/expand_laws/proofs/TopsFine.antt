@@ -4,7 +4,7 @@ use Rattle.t_base.specs.declared.basics.Span.{Span}
 use Rattle.t_objects.specs.declared.words.Word.{Word}
 use Rattle.t_forms.specs.Data.{Datum, span_of, items_of, word_of}
 use Rattle.t_rows.specs.Rows.{Definition, definition_of_word}
-use Rattle.t_expand.specs.Units.{Top, expression, is_defining, defining_or_broken, defines, definition_of_items, top_of, is_herald_items, without_herald, tops_of}
+use Rattle.expansion.specs.Units.{Top, expression, is_defining, defining_or_broken, defines, definition_of_items, top_of, is_herald_items, without_herald, tops_of}
 use Rattle.expand_laws.proofs.Fineness.{ArePure, items_size, size_some, items_pure, definition_fine}
 use Rattle.expand_laws.proofs.Made.{IsRight}
 use Rattle.expand_laws.proofs.OneTop.{IsFineTop}

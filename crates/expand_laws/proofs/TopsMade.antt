@@ -11,13 +11,14 @@ use Rattle.t_core.specs.declared.forms.FormKind.TheVariants as kind
 use Rattle.t_core.specs.declared.forms.Form.{Form}
 use Rattle.t_core.specs.Nodes.{binders_of}
 use Rattle.t_core.specs.Whole.{NamesAreThere, IsTree, HasPlaces, IsShaped, HasShapes, IsDefault, pair_in, pair_of}
-use Rattle.core_check.specs.Sound.{string_in, string_of}
+use Rattle.expansion.specs.Strings.{string_in, string_of}
 use Rattle.t_forms.specs.Data.{Datum}
 use Rattle.t_forms.specs.Names.{Bound, Meaning, a_global, an_op}
 use Rattle.t_rows.specs.Rows.{Definition, define, lset, operation_form}
-use Rattle.t_expand.specs.Meaning.{Nodes, RootMeans, ValueMeans, IsKind, FormsMean}
-use Rattle.t_expand.specs.Units.{Top, defining, broken, expression, meaning_of}
-use Rattle.expand_laws.proofs.Made.{Stock, HasStock, HasDefined, numbers, strings_named, pairs_named}
+use Rattle.expansion.specs.Meaning.{Nodes, RootMeans, ValueMeans, IsKind, FormsMean}
+use Rattle.expansion.specs.Units.{Top, defining, broken, expression, meaning_of}
+use Rattle.expand_laws.proofs.Made.{Stock, HasStock, HasDefined, strings_named, pairs_named}
+use Rattle.expansion.specs.Counting.{numbers}
 use Rattle.expand_laws.proofs.Once.{IsOnce}
 use Rattle.expand_laws.proofs.Sizes.{size}
 

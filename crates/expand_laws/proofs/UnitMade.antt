@@ -15,19 +15,19 @@ use Rattle.t_reader.specs.Tokens.{is_name, is_name_byte}
 use Rattle.t_reader.specs.Unit.{IsWhole, HoldTrees, fixed_names}
 use Rattle.t_core.specs.Whole.{binders, pair_in, pair_of}
 use Rattle.t_core.specs.Whole.{IsWhole as IsWholeCore}
-use Rattle.core_check.specs.Sound.{string_in, string_of}
-use Rattle.core_check.proofs.Wholes.{distinct_vars}
+use Rattle.expansion.specs.Strings.{string_in, string_of}
+use Rattle.expand_laws.proofs.DistinctVariables.{distinct_vars}
 use Rattle.t_forms.specs.Data.{datum_of}
 use Rattle.t_rows.specs.declared.refusal.Refusal.{Refusal}
-use Rattle.t_expand.specs.Meaning.{FormsMean}
-use Rattle.t_expand.specs.Refusals.{RefusedIn}
-use Rattle.t_expand.specs.Units.{Top, tops_of, definitions_of, is_global, texts, global_texts, op_texts}
-use Rattle.t_expand.proofs.WholeLemmas.{forms_scoped}
+use Rattle.expansion.specs.Meaning.{FormsMean}
+use Rattle.expansion.specs.Refusals.{RefusedIn}
+use Rattle.expansion.specs.Units.{Top, tops_of, definitions_of, is_global, texts, global_texts, op_texts}
+use Rattle.expansion.proofs.WholeLemmas.{forms_scoped}
 use Rattle.expand_laws.specs.Cores.{HasCore}
 use Rattle.expand_laws.proofs.AllTops.{all_tops}
 use Rattle.expand_laws.proofs.DefinedOnce.{global_once, op_once}
 use Rattle.expand_laws.proofs.Defining.{forms_defined}
-use Rattle.expand_laws.proofs.Made.{numbers}
+use Rattle.expansion.specs.Counting.{numbers}
 use Rattle.expand_laws.proofs.Numbering.{all_clean, all_new, all_numbered, all_kinds, entries_are}
 use Rattle.expand_laws.proofs.Once.{distinct_of}
 use Rattle.expand_laws.proofs.Premises.{MakesForms}
@@ -148,7 +148,7 @@ module _ (names : List (List ℕ)) (ts : List Top) (alloc : Global) (r : IsReady
 
 -- ---- the unit
 
-names_are : (u : TextUnit) → IsWhole u → AreNames u.names
+pub names_are : (u : TextUnit) → IsWhole u → AreNames u.names
 names_are u w = record { texts = name_texts u.names w.names_whole; distinct = w.names_distinct; others = w.names_begin.0; begin = w.names_begin.1 }
 
 pub unit_made : (u : TextUnit) (trees : List Tree) → IsWhole u → HoldTrees u.names u.nodes.items u.forms.items trees → MakesForms u.names (definitions_of (tops_of (map datum_of trees)))

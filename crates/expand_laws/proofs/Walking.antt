@@ -12,7 +12,7 @@ use Rattle.t_forms.specs.Names.{Scope, within}
 use Rattle.t_rows.specs.declared.refusal.Refusal.{Refusal}
 use Rattle.t_rows.specs.Rows.{stands_for, node, Shape, Part as RowPart, row}
 use Rattle.t_rows.proofs.ZipLemmas.{zip_weaker}
-use Rattle.t_expand.specs.Meaning.{Fits, Nodes, Means, as_form, as_node, AllMean, no_parts, one_part}
+use Rattle.expansion.specs.Meaning.{Fits, Nodes, Means, as_form, as_node, AllMean, no_parts, one_part}
 use Rattle.expand_laws.specs.Renaming.{Renames, alike, nodes_of}
 use Rattle.expand_laws.proofs.Beside.{Beside, PartsBeside, SameCount, parts_beside, place_of_part}
 use Rattle.expand_laws.proofs.Collecting.{Walked, AllWalked, PartsPaired, none_walked, one_more, zip_got, zip_each}
@@ -40,14 +40,14 @@ as_its_form shared n vars scope d e tail k at (as_form vs sc dd g t kk there m) 
 as_its_form shared n vars scope d e tail k at (as_node vs sc dd t kk shape parts c there here span f all) = absurd (no_node e shape [] parts (sym at ∙ there))
 
 -- a node of the row's shape
-record IsNode (shared : Shared) (n : Nodes) (vars : List Var) (scope : Scope) (d : Datum) (tail : Bool) (k : ℕ) (shape : Shape) (parts : List RowPart) : Type 0 where
-  c : Core
-  here : slice_get n.nodes k ≡ Some c
-  span : slice_get n.spans k ≡ Some (span_of d)
-  fits : Fits shared vars tail shape c
-  all : AllMean shared n vars scope parts (parts_of c tail)
+pub record IsNode (shared : Shared) (n : Nodes) (vars : List Var) (scope : Scope) (d : Datum) (tail : Bool) (k : ℕ) (shape : Shape) (parts : List RowPart) : Type 0 where
+  pub c : Core
+  pub here : slice_get n.nodes k ≡ Some c
+  pub span : slice_get n.spans k ≡ Some (span_of d)
+  pub fits : Fits shared vars tail shape c
+  pub all : AllMean shared n vars scope parts (parts_of c tail)
 
-as_its_node : (shared : Shared) (n : Nodes) (vars : List Var) (scope : Scope) (d : Datum) (tail : Bool) (k : ℕ) (shape : Shape) (parts : List RowPart)
+pub as_its_node : (shared : Shared) (n : Nodes) (vars : List Var) (scope : Scope) (d : Datum) (tail : Bool) (k : ℕ) (shape : Shape) (parts : List RowPart)
     → row scope d ≡ node shape [] parts → Means shared n vars scope d tail k → IsNode shared n vars scope d tail k shape parts
 as_its_node shared n vars scope d tail k shape parts at (as_form vs sc dd g t kk there m) = absurd (no_node g shape [] parts (sym there ∙ at))
 as_its_node shared n vars scope d tail k shape parts at (as_node vs sc dd t kk s ps c there here span f all) = record {

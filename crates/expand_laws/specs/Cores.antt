@@ -4,8 +4,8 @@ use Rattle.t_base.specs.declared.basics.Span.{Span}
 use Rattle.t_core.specs.declared.forms.UnitCore.{UnitCore}
 use Rattle.t_reader.specs.Grammar.{Tree}
 use Rattle.t_rows.specs.declared.refusal.Refusal.{Refusal}
-use Rattle.t_expand.specs.Meaning.{IsCoreOf}
-use Rattle.t_expand.specs.Refusals.{IsFirstRefusal}
+use Rattle.expansion.specs.Meaning.{IsCoreOf}
+use Rattle.expansion.specs.Refusals.{IsFirstRefusal}
 
 pub record HasCore (data_ : List Tree) : Type 0 where
   pub core : UnitCore

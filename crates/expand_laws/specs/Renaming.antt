@@ -16,7 +16,7 @@ use Rattle.t_core.specs.declared.forms.Form.{Form}
 use Rattle.t_core.specs.declared.forms.UnitCore.{UnitCore}
 use Rattle.t_core.specs.Nodes.{Part, parts_of}
 use Rattle.t_core.specs.Whole.{binders}
-use Rattle.t_expand.specs.Meaning.{Nodes}
+use Rattle.expansion.specs.Meaning.{Nodes}
 
 -- ---- renamings
 

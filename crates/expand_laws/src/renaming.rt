@@ -4,7 +4,7 @@ ghost use Rattle.expand_laws.specs.Renaming.{IsRenamed};
 ghost use Rattle.expand_laws.specs.SameCounts.{CountAlike};
 ghost use Rattle.t_base.specs.declared.basics.Span.{Span};
 ghost use Rattle.t_core.specs.declared.forms.UnitCore.{UnitCore};
-ghost use Rattle.t_expand.specs.Meaning.{IsCoreOf};
+ghost use Rattle.expansion.specs.Meaning.{IsCoreOf};
 ghost use Rattle.t_reader.specs.Grammar.{Tree};
 
 /// The cores of one list of data differ at most by a one-to-one renaming of their variables.

@@ -12,7 +12,7 @@ use Rattle.t_core.specs.declared.limiting.LimitFault.{LimitFault}
 use Rattle.t_core.specs.Limits.{limit_of}
 use Rattle.t_reader.specs.Grammar.{Tree}
 use Rattle.t_reader.proofs.GrammarLaws.{reads_once}
-use Rattle.t_expand.specs.Meaning.{IsCoreOf}
+use Rattle.expansion.specs.Meaning.{IsCoreOf}
 use Rattle.expand_laws.specs.Renaming.{Renames, IsSameConst, fix, char, nil, truth, symbol, string, pair, IsSameNode}
 use Rattle.expand_laws.specs.SameCounts.{CountAlike}
 use Rattle.expand_laws.proofs.AlikeTests.{forms_pass}

@@ -9,8 +9,8 @@ use Rattle.t_core.specs.declared.limiting.LimitFault.{LimitFault}
 use Rattle.t_core.specs.Limits.{limit_of}
 use Rattle.t_rows.specs.declared.refusal.SyntaxKind.{SyntaxKind}
 use Rattle.t_rows.specs.Rows.{refusal}
-use Rattle.t_expand.specs.Meaning.{IsCoreOf}
-use Rattle.t_expand.specs.Refusals.{IsFirstRefusal}
+use Rattle.expansion.specs.Meaning.{IsCoreOf}
+use Rattle.expansion.specs.Refusals.{IsFirstRefusal}
 use Rattle.t_meaning.specs.Units.{meaning_at_most}
 use Rattle.image_file.specs.Grammar.{Parts, IsImageOf}
 use Rattle.m68020_step.specs.declared.machine.Sizes.{Sizes}

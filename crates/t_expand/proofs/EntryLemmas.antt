@@ -1,5 +1,5 @@
 -- What a unit defines, definition by definition.
-use Rattle.std.proofs.Common.{◌≡◌, ◌≢◌, ℕ, suc, ◌+◌, ◌==◌, ◌||◌, Bool, true, false, not, List, [], ◌∷◌, ◌++◌, length, map, Option, Some, None, is_some, slice_get, slice_set, AllPairs, refl, sym, ap, subst, ◌∙◌, if◌then◌else◌, arith}
+use Rattle.std.proofs.Common.{◌≡◌, ◌≢◌, ℕ, suc, ◌+◌, ◌==◌, ◌||◌, Bool, true, false, not, List, [], ◌∷◌, ◌++◌, length, map, Option, Some, None, is_some, slice_get, slice_set, AllPairs, refl, sym, ap, subst, ◌∙◌, append_assoc, if◌then◌else◌, arith}
 use Rattle.std.specs.List.{filter}
 use Rattle.std.specs.Str.{bytes_eq}
 use Rattle.std.specs.Prelude.{codes}
@@ -17,15 +17,17 @@ use Rattle.t_forms.specs.declared.scope.LocalName.{LocalName}
 use Rattle.t_forms.specs.declared.scope.LocalName.TheVariants as key
 use Rattle.t_forms.specs.declared.scope.Defined.{Defined}
 use Rattle.t_forms.specs.declared.scope.Defined.TheVariants as kept
-use Rattle.t_forms.specs.Data.{Name, written, made, is_same_name}
+use Rattle.t_forms.specs.Data.{Datum, Name, written, made, is_same_name}
 use Rattle.t_forms.specs.Names.{Meaning, Bound, bound, a_global, an_op, defined_as}
 use Rattle.t_forms.specs.Held.{IsName, IsTable, IsDefined}
 use Rattle.t_forms.proofs.Bindings.{same_place, nothing_defined}
 use Rattle.form_rows.specs.declared.definitions.Definition.{Definition as CodeDefinition}
 use Rattle.form_rows.specs.Definitions.{IsDefinition}
+use Rattle.t_rows.specs.Lists.{IsHeldIf}
 use Rattle.t_rows.specs.Rows.{Definition, define, lset, operation_form}
 use Rattle.t_expand.specs.Entries.{AreEntries, IsGlobalAdded, IsOpAdded, IsPut, is_variable}
-use Rattle.t_expand.specs.Units.{Entry, entry, defined_name, is_global, is_assigned, has_entry, with_definition, meanings_from, text_of, texts}
+use Rattle.expansion.specs.Settling.{first_kind, has_default}
+use Rattle.expansion.specs.Units.{Entry, entry, defined_name, is_global, is_assigned, has_entry, with_definition, meanings_from, text_of, texts}
 use Rattle.t_expand.specs.declared.entries.Entries.{Entries}
 use Rattle.t_expand.proofs.PlaceLemmas.{got_same, got_other}
 
@@ -153,6 +155,26 @@ texts_same p es e h =
     let none : filter p (e ∷ []) ≡ [] = rw h refl in
     rw (filter-append p es (e ∷ []), none, append-nil (filter p es)) refl
 
+-- what is told of each, behind what is told of those in front
+told_last : {A B : Type 0} (f : A → B) (h : Entry → B) (p : Entry → Bool) (front : List B) (es : List Entry) (e : Entry) (gs : List A) (g : A) → p e ≡ true
+    → map f gs ≡ front ++ map h (filter p es) → f g ≡ h e → map f (gs ++ g ∷ []) ≡ front ++ map h (filter p (es ++ e ∷ []))
+told_last f h p front es e gs g t all one =
+    let last : filter p (e ∷ []) ≡ e ∷ [] = rw t refl in
+    map-append f gs (g ∷ [])
+    ∙ ap (λ l. l ++ f g ∷ []) all
+    ∙ append_assoc front (map h (filter p es)) (f g ∷ [])
+    ∙ ap (λ x. front ++ (map h (filter p es) ++ x ∷ [])) one
+    ∙ ap (λ l. front ++ l) (sym (ap (map h) (filter-append p es (e ∷ []) ∙ ap (λ l. filter p es ++ l) last) ∙ map-append h (filter p es) (e ∷ [])))
+
+told_same : {B : Type 0} (h : Entry → B) (p : Entry → Bool) (es : List Entry) (e : Entry) → p e ≡ false → map h (filter p (es ++ e ∷ [])) ≡ map h (filter p es)
+told_same h p es e t =
+    let none : filter p (e ∷ []) ≡ [] = rw t refl in
+    ap (map h) (filter-append p es (e ∷ []) ∙ ap (λ l. filter p es ++ l) none ∙ append-nil (filter p es))
+
+held_default : (names : List (List ℕ)) (cells : List Cell) (k : Option ℕ) (d : Option Datum) → IsHeldIf names cells k d → is_some k ≡ is_some d
+held_default names cells k None h = ap is_some h
+held_default names cells k (Some d) h = ap is_some h.1
+
 -- ---- a definition
 
 known_if : (d : Option Defined) (m : Option Meaning) (x : Defined) → IsDefined d m → d ≡ Some x → is_some m ≡ true
@@ -179,8 +201,8 @@ free_entry names e es n p are w at =
 
 global_added : (names : List (List ℕ)) (old new : Entries) (es : List Entry) (e : Entry) (p : NamePlace) (k : GlobalKind) (t : List ℕ) → AllPairs (λ a b. a ≢ b) names
     → AreEntries names old es → e.name ≡ written t → slice_get names p.0 ≡ Some t → slice_get old.table.items p.0 ≡ Some None → is_global e.by ≡ true
-    → is_assigned e.by ≡ is_variable k → IsGlobalAdded old new p k → AreEntries names new (es ++ e ∷ [])
-global_added names old new es e p k t apart are n here free global assigned added =
+    → is_assigned e.by ≡ is_variable k → k ≡ first_kind e.by → IsGlobalAdded old new p k → AreEntries names new (es ++ e ∷ [])
+global_added names old new es e p k t apart are n here free global assigned first added =
     let place : length old.globals.items ≡ 0 + length (filter (λ x. is_global x.by) es) =
     (let c = as_many_texts (λ (g : Global1). slice_get names g.name.0) (texts (filter (λ x. is_global x.by) es)) old.globals.items are.globals in
     let l : length (texts (filter (λ x. is_global x.by) es)) ≡ length (filter (λ x. is_global x.by) es) = length-map (filter (λ x. is_global x.by) es) (λ x. text_of x.name) in
@@ -194,12 +216,19 @@ global_added names old new es e p k t apart are n here free global assigned adde
           rw (texts_last (λ x. is_global x.by) es e t global n, added.globals)
           (text_last (λ (g : Global1). slice_get names g.name.0) (texts (filter (λ x. is_global x.by) es)) old.globals.items (record { name = p; kind = k }) t are.globals here);
       ops = rw (texts_same (λ x. not (is_global x.by)) es e is_op, added.ops) are.ops;
+      kinds =
+          ap (map (λ (g : Global1). g.kind)) added.globals
+          ∙ told_last (λ (g : Global1). g.kind) (λ x. first_kind x.by) (λ x. is_global x.by) [] es e old.globals.items (record { name = p; kind = k }) global are.kinds first;
+      defaults =
+          ap (map (λ (o : OpInfo). o.default)) added.ops
+          ∙ are.defaults
+          ∙ ap (λ l. false ∷ false ∷ false ∷ l) (sym (told_same (λ x. has_default x.by) (λ x. not (is_global x.by)) es e is_op));
     }
 
 op_added : (names : List (List ℕ)) (old new : Entries) (es : List Entry) (e : Entry) (p : NamePlace) (default : Bool) (t : List ℕ) → AllPairs (λ a b. a ≢ b) names
     → AreEntries names old es → e.name ≡ written t → slice_get names p.0 ≡ Some t → slice_get old.table.items p.0 ≡ Some None → is_global e.by ≡ false
-    → IsOpAdded old new p default → AreEntries names new (es ++ e ∷ [])
-op_added names old new es e p default t apart are n here free global added =
+    → default ≡ has_default e.by → IsOpAdded old new p default → AreEntries names new (es ++ e ∷ [])
+op_added names old new es e p default t apart are n here free global filled added =
     let builtins = codes "setter" ∷ codes "contents" ∷ codes "set-contents" ∷ texts (filter (λ x. not (is_global x.by)) es) in
     let place : length old.ops.items ≡ 3 + length (filter (λ x. not (is_global x.by)) es) =
     (let c = as_many_texts (λ (o : OpInfo). slice_get names o.name.0) builtins old.ops.items are.ops in
@@ -215,17 +244,22 @@ op_added names old new es e p default t apart are n here free global added =
       ops =
           rw (texts_last (λ x. not (is_global x.by)) es e t is_op n, added.ops)
           (text_last (λ (o : OpInfo). slice_get names o.name.0) builtins old.ops.items (record { name = p; default = default }) t are.ops here);
+      kinds = ap (map (λ (g : Global1). g.kind)) added.globals ∙ are.kinds ∙ sym (told_same (λ x. first_kind x.by) (λ x. is_global x.by) es e global);
+      defaults =
+          ap (map (λ (o : OpInfo). o.default)) added.ops
+          ∙ told_last (λ (o : OpInfo). o.default) (λ x. has_default x.by) (λ x. not (is_global x.by)) (false ∷ false ∷ false ∷ []) es e old.ops.items
+          (record { name = p; default = default }) is_op are.defaults filled;
     }
 
 put_entry : (names : List (List ℕ)) (cells : List Cell) (old new : Entries) (es : List Entry) (c : CodeDefinition) (d : Definition) (p : NamePlace)
     → AllPairs (λ a b. a ≢ b) names → AreEntries names old es → Written names p (defined_name d).name → slice_get old.table.items p.0 ≡ Some None
     → IsDefinition names cells c d → IsPut old new p c → AreEntries names new (es ++ entry d ∷ [])
 put_entry names cells old new es c (define b e) p apart are w free of put =
-    global_added names old new es (entry (define b e)) p kinds.Value w.text apart are w.is w.at free refl refl (subst (λ x. IsPut old new p x) of.2 put)
+    global_added names old new es (entry (define b e)) p kinds.Value w.text apart are w.is w.at free refl refl refl (subst (λ x. IsPut old new p x) of.2 put)
 put_entry names cells old new es c (lset b e) p apart are w free of put =
-    global_added names old new es (entry (lset b e)) p kinds.Variable w.text apart are w.is w.at free refl refl (subst (λ x. IsPut old new p x) of.2 put)
+    global_added names old new es (entry (lset b e)) p kinds.Variable w.text apart are w.is w.at free refl refl refl (subst (λ x. IsPut old new p x) of.2 put)
 put_entry names cells old new es c (operation_form b ps e) p apart are w free of put =
-    op_added names old new es (entry (operation_form b ps e)) p (is_some of.2) w.text apart are w.is w.at free refl (subst (λ x. IsPut old new p x) of.3 put)
+    op_added names old new es (entry (operation_form b ps e)) p (is_some of.2) w.text apart are w.is w.at free refl (held_default names cells of.2 e of.6) (subst (λ x. IsPut old new p x) of.3 put)
 
 pub entry_added : (names : List (List ℕ)) (cells : List Cell) (old new : Entries) (es : List Entry) (c : CodeDefinition) (d : Definition) (p : NamePlace)
     → AllPairs (λ a b. a ≢ b) names → AreEntries names old es → Written names p (defined_name d).name → slice_get old.table.items p.0 ≡ Some None

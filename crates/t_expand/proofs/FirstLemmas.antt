@@ -1,5 +1,5 @@
 -- The first of the refusals that stand, put together from those of parts.
-use Rattle.std.proofs.Common.{◌≡◌, ◌⊎◌, inl, inr, Bool, true, List, [], ◌∷◌, Contains, Option, Some, None, refl, sym, subst, arith, ◌∙◌}
+use Rattle.std.proofs.Common.{◌≡◌, ◌⊎◌, inl, inr, Bool, true, List, [], ◌∷◌, Contains, Option, Some, None, refl, sym, subst, ◌∙◌}
 use Rattle.std.specs.List.{list_any}
 use Rattle.std.proofs.lemmas.List.Elements.{Contains-push, Contains-push_cases}
 use Rattle.t_base.specs.declared.basics.Span.{Span}
@@ -9,11 +9,13 @@ use Rattle.t_forms.specs.Names.{Scope}
 use Rattle.t_rows.specs.declared.refusal.Refusal.{Refusal}
 use Rattle.t_rows.specs.declared.refusal.SyntaxKind.TheVariants.{Twice}
 use Rattle.t_rows.specs.Rows.{refusal}
-use Rattle.t_expand.specs.Units.{Top, names_defined}
-use Rattle.t_expand.specs.Refusals.{Refused, Precedes, IsFirstOf, twice_defined}
+use Rattle.expansion.specs.Units.{Top, names_defined}
+use Rattle.expansion.specs.Refusals.{Refused, Precedes, IsFirstOf, twice_defined}
+use Rattle.expansion.proofs.Places.{contains_none}
 use Rattle.t_expand.specs.Expanding.{IsCovered, IsFirst, Expands}
 use Rattle.t_expand.specs.declared.driver_state.Expansion.{Expansion}
-use Rattle.t_expand.proofs.RefusalLemmas.{precedes_through, none_covers}
+use Rattle.t_expand.proofs.RefusalLemmas.{none_covers}
+use Rattle.expansion.proofs.Places.{precedes_through}
 
 covering : (f r : Refusal) → IsCovered (Some f) r → Precedes f r
 covering f r c = subst (λ x. Precedes x r) (sym (same_Some f c.by c.is)) c.precedes
@@ -95,9 +97,6 @@ none_before P (Some e) h = absurd (h e (inl refl))
 pub first_lists : (a b : Option Refusal) (xs ys : List Refusal) → xs ≡ ys → IsFirstOf (λ r. (a ≡ Some r) ⊎ Contains xs r) b
     → IsFirstOf (λ r. (a ≡ Some r) ⊎ Contains ys r) b
 first_lists a b xs ys e h = subst (λ zs. IsFirstOf (λ r. (a ≡ Some r) ⊎ Contains zs r) b) e h
-
-pub contains_none : (r : Refusal) → Contains [] r → ⊥
-contains_none r h = absurd (omega (arith, h.1))
 
 pub contains_one : (x r : Refusal) → Contains (x ∷ []) r → r ≡ x
 contains_one x r h = by (Contains-push_cases [] x r h)

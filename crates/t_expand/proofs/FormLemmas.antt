@@ -12,8 +12,8 @@ use Rattle.t_rows.specs.declared.rows.Row.{Row as CodeRow}
 use Rattle.t_rows.specs.declared.rows.Row.TheVariants as coded
 use Rattle.t_rows.specs.Rows.{Shape, Part, Row, stands_for, node, row}
 use Rattle.t_rows.specs.Given.{IsRow, IsShape, AreParts}
-use Rattle.t_expand.specs.Meaning.{as_form, AllMean, no_parts}
-use Rattle.t_expand.specs.Refusals.{Refused, in_form, at_form, in_part}
+use Rattle.expansion.specs.Meaning.{as_form, AllMean, no_parts}
+use Rattle.expansion.specs.Refusals.{Refused, in_form, at_form, in_part}
 use Rattle.t_expand.specs.Building.{part_of}
 use Rattle.t_expand.specs.Expanding.{IsCovered, IsFirst}
 use Rattle.t_expand.specs.Driving.{SameForm, Among, Finds, Opens}

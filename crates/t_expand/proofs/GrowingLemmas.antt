@@ -13,7 +13,7 @@ use Rattle.t_forms.specs.Names.{Scope, Bound}
 use Rattle.t_forms.proofs.Keeping.{keeps_append}
 use Rattle.t_rows.specs.Rows.{Shape, constant, Part as Form}
 use Rattle.t_expand.specs.Growth.{IsGrown}
-use Rattle.t_expand.specs.Meaning.{top_scope, RootMeans, IsQuoted, Fits, Nodes, Means, as_form, as_node, AllMean, no_parts, one_part}
+use Rattle.expansion.specs.Meaning.{top_scope, RootMeans, IsQuoted, Fits, Nodes, Means, as_form, as_node, AllMean, no_parts, one_part}
 
 stays : {A : Type 0} (xs ys more : List A) (k : ℕ) (x : A) → ys ≡ xs ++ more → slice_get xs k ≡ Some x → slice_get ys k ≡ Some x
 stays {A} xs ys more k x e h = subst (λ zs. slice_get zs k ≡ Some x) (sym e) (keeps_append xs more k x h)

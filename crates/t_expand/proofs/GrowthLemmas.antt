@@ -14,14 +14,16 @@ use Rattle.t_rows.specs.declared.rows.Shape.{Shape as CodeShape}
 use Rattle.t_rows.specs.declared.rows.Part.{Part as CodePart}
 use Rattle.t_rows.specs.Rows.{Shape, constant, local, global, builtin_value, op_value, lambda, if_, block, let_, labels, set_local, set_global, catch_, object, call, primitive, nothing, Part}
 use Rattle.t_rows.specs.Given.{IsShape, AreParts}
-use Rattle.t_expand.specs.Meaning.{Fits, Nodes, Means, as_form, as_node, AllMean, no_parts, one_part}
-use Rattle.t_expand.specs.Quoting.{Adds, AddsConstants}
+use Rattle.expansion.specs.Meaning.{Fits, Nodes, Means, as_form, as_node, AllMean, no_parts, one_part}
+use Rattle.t_expand.specs.Quoting.{AddsConstants}
+use Rattle.expansion.specs.Lists.{Adds}
 use Rattle.t_expand.specs.Expanding.{Grows}
 use Rattle.t_expand.specs.Driving.{AreLeft, Open, IsOpen, Stacked, Root}
 use Rattle.t_expand.specs.declared.driver_state.Expansion.{Expansion}
 use Rattle.t_expand.specs.declared.driver.Frame.{Frame}
 use Rattle.t_expand.specs.declared.driver.Waiting.{Waiting}
-use Rattle.t_expand.proofs.QuotedLemmas.{Adds_refl, Adds_trans, AddsConstants_refl, AddsConstants_trans, slice_get-Adds, IsQuoted-Adds}
+use Rattle.t_expand.proofs.QuotedLemmas.{AddsConstants_refl, AddsConstants_trans, IsQuoted-Adds}
+use Rattle.expansion.proofs.Added.{Adds_refl, Adds_trans, slice_get-Adds}
 
 -- ---- cells
 

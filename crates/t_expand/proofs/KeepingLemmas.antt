@@ -7,7 +7,7 @@ use Rattle.t_forms.specs.Held.{IsScope, vars_of}
 use Rattle.t_forms.proofs.Keeping.{extends_same, extends_trans}
 use Rattle.t_expand.specs.Expanding.{Grows}
 use Rattle.t_expand.specs.Growth.{IsGrown, Keeps, IsReady}
-use Rattle.t_expand.specs.Meaning.{top_scope}
+use Rattle.expansion.specs.Meaning.{top_scope}
 use Rattle.t_expand.specs.declared.driver_state.Expansion.{Expansion}
 
 pub grown_same : (s : Shared) → IsGrown s s

@@ -19,9 +19,9 @@ use Rattle.form_rows.specs.declared.definitions.Definition.TheVariants as code
 use Rattle.t_rows.specs.declared.names.Binder.{Binder as CodeBinder}
 use Rattle.form_rows.specs.Definitions.{IsDefinition}
 use Rattle.t_rows.specs.Rows.{Definition, define, lset, operation_form}
-use Rattle.t_expand.specs.Meaning.{IsKind, top_scope}
+use Rattle.expansion.specs.Meaning.{IsKind, top_scope}
 use Rattle.t_expand.specs.Rooted.{kind_of}
-use Rattle.t_expand.specs.Units.{defined_name, meaning_of}
+use Rattle.expansion.specs.Units.{defined_name, meaning_of}
 
 -- ---- what isn't defined is no global and no operation of the unit
 

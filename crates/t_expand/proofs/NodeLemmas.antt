@@ -14,8 +14,9 @@ use Rattle.t_rows.specs.declared.rows.Shape.{Shape as CodeShape}
 use Rattle.t_rows.specs.declared.rows.Shape.TheVariants as code
 use Rattle.t_rows.specs.Rows.{Shape, constant, local, global, builtin_value, op_value, lambda, if_, block, let_, labels, set_local, set_global, catch_, object, call, primitive, nothing}
 use Rattle.t_rows.specs.Given.{IsShape}
-use Rattle.t_expand.specs.Meaning.{Fits, IsQuoted}
-use Rattle.t_expand.specs.Building.{numbered, IsNode}
+use Rattle.expansion.specs.Meaning.{Fits, IsQuoted}
+use Rattle.t_expand.specs.Building.{IsNode}
+use Rattle.expansion.specs.Lists.{numbered}
 
 pub numbered_push : (first n : ℕ) → numbered first (n + 1) ≡ numbered first n ++ record { 0 = first + n } ∷ []
 numbered_push first zero = let e : first + 0 ≡ first = omega arith in rw e refl

@@ -1,6 +1,6 @@
 -- Constants of quoted data.
-use Rattle.std.proofs.Common.{◌≡◌, ℕ, zero, suc, List, [], ◌∷◌, ◌++◌, Option, Some, None, slice_get, refl, sym, ap, subst, ◌∙◌, append_assoc, length, arith}
-use Rattle.std.proofs.lemmas.List.{append-nil, same_from_push}
+use Rattle.std.proofs.Common.{◌≡◌, ℕ, List, [], ◌∷◌, ◌++◌, Option, Some, None, slice_get, refl, sym, ap, subst, ◌∙◌, length, arith}
+use Rattle.std.proofs.lemmas.List.{same_from_push}
 use Rattle.std.proofs.lemmas.Option.{same_Some}
 use Rattle.t_base.specs.declared.basics.Span.{Span}
 use Rattle.t_base.specs.declared.shared_parts.Const.{Const}
@@ -14,20 +14,15 @@ use Rattle.t_forms.specs.declared.arena.Form.{Form}
 use Rattle.t_forms.specs.declared.arena.Form.TheVariants as form
 use Rattle.t_forms.specs.Data.{Atom, given, variable, builtin, operation, listing, Datum, atom, cons, count_of}
 use Rattle.t_forms.specs.Held.{cell, Held, Continues, IsAtom, IsSymbol}
-use Rattle.t_expand.specs.Meaning.{IsQuoted}
-use Rattle.t_expand.specs.Quoting.{Adds, AddsConstants, IsHalf, StandsIn, as_root, in_pair, Quotes, IsConstant}
+use Rattle.expansion.proofs.Added.{Adds_refl, Adds_trans, slice_get-Adds}
+use Rattle.expansion.specs.Meaning.{IsQuoted}
+use Rattle.t_expand.specs.Quoting.{AddsConstants, IsHalf, StandsIn, as_root, in_pair, Quotes, IsConstant}
 use Rattle.t_expand.specs.declared.quoted.Half.{Half}
 use Rattle.t_expand.specs.declared.quoted.Half.TheVariants as half
 use Rattle.t_expand.specs.declared.quoted.Quoting.TheVariants as quoting
 use Rattle.t_expand.proofs.SpellingLemmas.{named_spelling}
 
 -- ---- what is added
-
-pub Adds_refl : {A : Type 0} (xs : List A) → Adds xs xs
-Adds_refl xs = record { more = []; is = sym (append-nil xs) }
-
-pub Adds_trans : {A : Type 0} (xs ys zs : List A) → Adds xs ys → Adds ys zs → Adds xs zs
-Adds_trans xs ys zs a b = record { more = a.more ++ b.more; is = b.is ∙ ap (λ l. l ++ b.more) a.is ∙ append_assoc xs a.more b.more }
 
 pub AddsConstants_refl : (s : Shared) → AddsConstants s s
 AddsConstants_refl s = record { names = refl; strings = Adds_refl s.strings.items; pairs = Adds_refl s.pairs.items; globals = refl; ops = refl }
@@ -40,14 +35,6 @@ AddsConstants_trans s t u a b = record {
   globals = b.globals ∙ a.globals;
   ops = b.ops ∙ a.ops;
 }
-
-pub slice_get-append : {A : Type 0} (xs ys : List A) (k : ℕ) (x : A) → slice_get xs k ≡ Some x → slice_get (xs ++ ys) k ≡ Some x
-slice_get-append [] ys k x h = cc
-slice_get-append (y ∷ xs) ys zero x h = h
-slice_get-append (y ∷ xs) ys (suc k) x h = slice_get-append xs ys k x h
-
-pub slice_get-Adds : {A : Type 0} (xs ys : List A) (k : ℕ) (x : A) → Adds xs ys → slice_get xs k ≡ Some x → slice_get ys k ≡ Some x
-slice_get-Adds xs ys k x a h = ap (λ l. slice_get l k) a.is ∙ slice_get-append xs a.more k x h
 
 pub IsQuoted-Adds : (old new : Shared) → AddsConstants old new → (d : Datum) (c : Const) → IsQuoted old d c → IsQuoted new d c
 IsQuoted-Adds old new a (atom s (given (fix z))) c h = h

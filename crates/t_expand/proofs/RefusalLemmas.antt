@@ -1,22 +1,11 @@
 -- The first of several refusals.
-use Rattle.std.proofs.Common.{◌≡◌, ◌⊎◌, inl, inr, ℕ, ◌<◌, ◌≤◌, List, [], ◌∷◌, ◌++◌, Contains, Option, Some, None, refl, sym, ap, subst, ◌∙◌, arith}
+use Rattle.std.proofs.Common.{◌≡◌, ◌⊎◌, inl, inr, List, [], ◌∷◌, ◌++◌, Contains, Option, Some, None, refl, sym, ap, subst, ◌∙◌}
 use Rattle.std.proofs.lemmas.List.Elements.{Contains-push, Contains-push_cases, Contains-append_left}
 use Rattle.std.proofs.lemmas.Option.{same_Some}
 use Rattle.t_rows.specs.declared.refusal.Refusal.{Refusal}
-use Rattle.t_expand.specs.Refusals.{Precedes, number}
+use Rattle.expansion.specs.Refusals.{Precedes}
+use Rattle.expansion.proofs.Places.{precedes_self, precedes_through, none_in}
 use Rattle.t_expand.specs.Expanding.{IsCovered, IsFirst}
-
-pub precedes_self : (a : Refusal) → Precedes a a
-precedes_self a = inr (refl, omega arith)
-
-precedes_by : (a b c m n k : ℕ) → (a < b) ⊎ (a ≡ b) × (m ≤ n) → (b < c) ⊎ (b ≡ c) × (n ≤ k) → (a < c) ⊎ (a ≡ c) × (m ≤ k)
-precedes_by a b c m n k (inl h) (inl i) = inl (omega arith)
-precedes_by a b c m n k (inl h) (inr i) = inl (omega arith)
-precedes_by a b c m n k (inr h) (inl i) = inl (omega arith)
-precedes_by a b c m n k (inr h) (inr i) = inr (h.0 ∙ i.0, omega arith)
-
-pub precedes_through : (a b c : Refusal) → Precedes a b → Precedes b c → Precedes a c
-precedes_through a b c h i = precedes_by a.span.start b.span.start c.span.start (number a.kind) (number b.kind) (number c.kind) h i
 
 pub covered_self : (first : Option Refusal) (r : Refusal) → first ≡ Some r → IsCovered first r
 covered_self first r e = record { by = r; is = e; precedes = precedes_self r }
@@ -58,9 +47,6 @@ first_of_two before seen f x g one h i first = record {
     least_by : (r : Refusal) → Contains seen r ⊎ (x ≡ r) → IsCovered (Some g) r
     least_by r (inl c) = covers_more f g r h (first.least r c)
     least_by r (inr e) = record { by = g; is = refl; precedes = subst (λ y. Precedes g y) e i }
-
-pub none_in : {A : Type 0} (x : A) → Contains [] x → ⊥
-none_in x c = let h = c.1 in omega arith
 
 pub first_of_none : (before : Option Refusal) → IsFirst before [] before
 first_of_none before = record { known = λ r e. inl e; least = λ r c. absurd (none_in r c); kept = λ r e. covered_self before r e }

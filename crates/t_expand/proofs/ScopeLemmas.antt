@@ -4,7 +4,7 @@ use Rattle.std.proofs.lemmas.List.{drop_more}
 use Rattle.t_base.specs.declared.basics.Var.{Var}
 use Rattle.t_forms.specs.declared.scope.Local.{Local}
 use Rattle.t_forms.specs.Held.{without_first}
-use Rattle.t_expand.specs.Building.{numbered}
+use Rattle.expansion.specs.Lists.{numbered}
 
 pub drop-without_first : (k : ℕ) (locals all : List Local) → locals ≡ drop k all → without_first locals ≡ drop (k + 1) all
 drop-without_first k locals all e = ap without_first e ∙ by k all

@@ -14,11 +14,11 @@ use Rattle.t_forms.proofs.Keeping.{keeps_append}
 use Rattle.t_rows.specs.declared.refusal.Refusal.{Refusal}
 use Rattle.t_expand.specs.Growth.{IsGrown, Keeps}
 use Rattle.t_expand.specs.Marks.{Marks}
-use Rattle.t_expand.specs.Meaning.{FormMeans, FormsMean}
-use Rattle.t_expand.specs.Refusals.{IsFirstOf, RefusedTop, RefusedAmong}
+use Rattle.expansion.specs.Meaning.{FormMeans, FormsMean}
+use Rattle.expansion.specs.Refusals.{IsFirstOf, RefusedTop, RefusedAmong}
 use Rattle.t_expand.specs.SoFar.{SoFar}
 use Rattle.t_expand.specs.Tops.{IsTop, AreTops}
-use Rattle.t_expand.specs.Units.{Top, names_defined}
+use Rattle.expansion.specs.Units.{Top, names_defined}
 use Rattle.t_expand.specs.declared.driver_state.Expansion.{Expansion}
 use Rattle.t_expand.specs.declared.tops.Top.{Top as CodeTop}
 use Rattle.t_expand.specs.declared.unit_all.FormList.{FormList}

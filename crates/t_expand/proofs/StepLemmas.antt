@@ -13,10 +13,12 @@ use Rattle.t_rows.specs.declared.refusal.Refusal.{Refusal}
 use Rattle.t_rows.specs.declared.rows.Part.{Part as CodePart}
 use Rattle.t_rows.specs.Rows.{Part, node, row}
 use Rattle.t_rows.specs.Given.{AreBinds, IsPartBehind, IsShape, AreParts}
-use Rattle.t_expand.specs.Meaning.{Means, as_node, AllMean, Fits}
-use Rattle.t_expand.specs.Refusals.{Refused, at_form}
-use Rattle.t_expand.specs.Building.{numbered, variables_of, part_of}
-use Rattle.t_expand.specs.Quoting.{Adds, AddsConstants}
+use Rattle.expansion.specs.Meaning.{Means, as_node, AllMean, Fits}
+use Rattle.expansion.specs.Refusals.{Refused, at_form}
+use Rattle.t_expand.specs.Building.{variables_of, part_of}
+use Rattle.expansion.specs.Lists.{numbered}
+use Rattle.t_expand.specs.Quoting.{AddsConstants}
+use Rattle.expansion.specs.Lists.{Adds}
 use Rattle.t_expand.specs.Expanding.{Grows, IsCovered, IsFirst}
 use Rattle.t_expand.specs.Driving.{SameForm, Root, Open, AreLeft, IsOpen, without, Inside, WaitsFor, Stacked, Among, Behind, Tracks, left_under, IsUnder, IsBack, IsEnd, Opens}
 use Rattle.t_expand.specs.declared.build.Done.{Done}
@@ -24,8 +26,9 @@ use Rattle.t_expand.specs.declared.build.Fresh.{Fresh}
 use Rattle.t_expand.specs.declared.driver_state.Expansion.{Expansion}
 use Rattle.t_expand.specs.declared.driver.Frame.{Frame}
 use Rattle.t_expand.specs.declared.driver.Waiting.{Waiting}
-use Rattle.t_expand.proofs.QuotedLemmas.{Adds_refl, AddsConstants_refl}
-use Rattle.t_expand.proofs.RefusalLemmas.{precedes_through}
+use Rattle.t_expand.proofs.QuotedLemmas.{AddsConstants_refl}
+use Rattle.expansion.proofs.Added.{Adds_refl}
+use Rattle.expansion.proofs.Places.{precedes_through}
 use Rattle.t_forms.proofs.Keeping.{extends_same}
 use Rattle.t_expand.proofs.GrowthLemmas.{Grows_trans, IsOpen-Grows, Stacked-Grows, AllMean-push}
 use Rattle.t_expand.proofs.FormLemmas.{refused_node, among_node, first_part, later_part, part_cases, among_none}

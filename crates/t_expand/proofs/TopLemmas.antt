@@ -1,12 +1,11 @@
 -- A form at top level and what it becomes.
-use Rattle.std.proofs.Common.{◌≡◌, ℕ, suc, zero, ◌+◌, ◌<◌, List, [], ◌∷◌, ◌++◌, length, take, get_or, map, arith, Option, Some, None, refl, sym, ap, subst, ◌∙◌}
-use Rattle.std.proofs.lemmas.Grind.{flat_map-append}
-use Rattle.std.proofs.lemmas.List.{append-nil, map-append}
+use Rattle.std.proofs.Common.{◌≡◌, ℕ, suc, zero, ◌+◌, ◌<◌, List, [], ◌∷◌, ◌++◌, length, take, get_or, map, arith, Option, Some, None, refl, sym, ap, subst}
+use Rattle.std.proofs.lemmas.List.{map-append}
 use Rattle.t_base.specs.declared.basics.Span.{Span}
 use Rattle.t_base.specs.declared.shared_parts.Shared.{Shared}
 use Rattle.t_core.specs.declared.forms.FormKind.{FormKind}
 use Rattle.t_forms.specs.declared.arena.Cell.{Cell}
-use Rattle.t_forms.specs.Data.{Datum, Name}
+use Rattle.t_forms.specs.Data.{Datum}
 use Rattle.t_forms.specs.Names.{Bound}
 use Rattle.t_forms.specs.Held.{Held, AllHeld, Extends}
 use Rattle.t_forms.proofs.Keeping.{held_grows}
@@ -15,10 +14,10 @@ use Rattle.form_rows.specs.Definitions.{IsDefinition}
 use Rattle.t_rows.specs.Lists.{IsHeldIf}
 use Rattle.t_rows.specs.Rows.{Definition, define, lset, operation_form}
 use Rattle.t_expand.specs.Growth.{Keeps}
-use Rattle.t_expand.specs.Meaning.{TopMeans, FormMeans}
+use Rattle.expansion.specs.Meaning.{TopMeans, FormMeans}
 use Rattle.t_expand.specs.Rooted.{nodes_of}
 use Rattle.t_expand.specs.Tops.{IsTop, AreTops}
-use Rattle.t_expand.specs.Units.{Top, defining, broken, expression, names_of, names_defined, top_of}
+use Rattle.expansion.specs.Units.{Top, defining, broken, expression, top_of}
 use Rattle.t_expand.specs.declared.driver_state.Expansion.{Expansion}
 use Rattle.t_expand.specs.declared.tops.Top.{Top as CodeTop}
 use Rattle.t_expand.specs.declared.tops.Top.TheVariants as code
@@ -67,12 +66,6 @@ pub tops_kept : (a b : Expansion) (cs : List CodeTop) (ts : List Top) → Keeps 
 tops_kept a b cs ts k are = subst (λ names. AreTops names b.forms cs ts) (sym k.shared.names) (tops_grow a.shared.names a.forms b.forms k.forms cs ts are)
 
 -- ---- names
-
-pub names_last : (before : List Top) (t : Top) (ns : List Name) → names_of t ≡ ns → names_defined (before ++ t ∷ []) ≡ names_defined before ++ ns
-names_last before t ns e = flat_map-append names_of before (t ∷ []) ∙ ap (λ l. names_defined before ++ l) (last (names_of t) ∙ e)
-  where
-    last : (l : List Name) → l ++ [] ≡ l
-    last l = append-nil l
 
 -- ---- the form of the core
 

@@ -6,11 +6,8 @@ use Rattle.t_base.specs.declared.shared_parts.Global1.{Global1}
 use Rattle.t_base.specs.declared.shared_parts.Shared.{Shared}
 use Rattle.t_reader.specs.Grammar.{Tree}
 use Rattle.t_core.specs.declared.forms.UnitCore.{UnitCore}
-use Rattle.t_core.specs.Whole.{IsWhole}
-use Rattle.core_check.specs.Sound.{IsSound}
 use Rattle.t_forms.specs.declared.arena.Cell.{Cell}
 use Rattle.t_forms.specs.Data.{datum_of}
-use Rattle.t_forms.specs.Names.{Bound}
 use Rattle.t_forms.specs.Held.{AreNames}
 use Rattle.std.specs.Global.{Vec}
 use Rattle.t_rows.specs.Rows.{refusal}
@@ -18,19 +15,22 @@ use Rattle.t_rows.specs.declared.refusal.SyntaxKind.{SyntaxKind}
 use Rattle.t_rows.specs.declared.refusal.Refusal.{Refusal}
 use Rattle.t_expand.specs.Entries.{AreEntries}
 use Rattle.t_expand.specs.Growth.{IsGrown, Keeps, IsReady}
-use Rattle.t_expand.specs.Meaning.{IsCoreOf, FormsMean}
-use Rattle.t_expand.specs.Outcome.{IsStarted, IsPrepared, IsFinished, IsOutcome, IsRefusedWith}
-use Rattle.t_expand.specs.Refusals.{IsFirstOf, IsFirstRefusal, RefusedAmong, RefusedIn, number}
+use Rattle.expansion.specs.Meaning.{IsCoreOf, FormsMean}
+use Rattle.t_expand.specs.Outcome.{IsStarted, IsPrepared, IsText, IsFinished, IsOutcome, IsRefusedWith}
+use Rattle.expansion.specs.Refusals.{IsFirstOf, IsFirstRefusal, RefusedAmong, RefusedIn, number}
+use Rattle.expansion.specs.Settling.{all_settled}
+use Rattle.t_expand.specs.Tallies.{AreTallied}
 use Rattle.t_expand.specs.Tops.{AreTops}
 use Rattle.t_expand.specs.declared.tops.Top.{Top as CodeTop}
-use Rattle.t_expand.specs.Units.{Top, tops_of, entries_of, definitions_of}
+use Rattle.expansion.specs.Units.{Top, tops_of, entries_of, definitions_of}
 use Rattle.t_expand.specs.declared.driver_state.Expansion.{Expansion}
 use Rattle.t_expand.specs.declared.entries.Entries.{Entries}
 use Rattle.t_expand.specs.declared.fault.SyntaxFault.{SyntaxFault}
 use Rattle.t_expand.specs.declared.fault.SyntaxFault.TheVariants as faults
 use Rattle.t_expand.specs.declared.unit_all.FormList.{FormList}
-use Rattle.t_expand.proofs.FirstRefusals.{same_start, same_number, same_kind}
-use Rattle.t_expand.proofs.WholeLemmas.{forms_scoped}
+use Rattle.expand_laws.proofs.WholeUnits.{whole_unit, strings_once}
+use Rattle.t_expand.proofs.UnitParts.{unit_parts}
+use Rattle.expansion.proofs.FirstRefusals.{same_start, same_number, same_kind}
 
 -- before the first form the names are those that the unit defines
 pub unit_ready : (names : List (List ℕ)) (forms : List Cell) (entries : Entries) (e : Expansion) (ts : List Top) → AllPairs (λ a b. a ≢ b) names
@@ -42,16 +42,6 @@ unit_ready names forms entries e ts apart s are = record {
     table = rw (s.names_are, s.table) are.table;
   };
   outside = s.outside;
-}
-
-sound_whole : (unit : UnitCore) (defined : List Bound) (spans : List (List Span)) (ts : List Top) → IsSound unit → FormsMean defined unit.shared unit.forms.items spans ts
-    → IsWhole unit
-sound_whole unit defined spans ts s m = record {
-  places = s.places;
-  scopes = record { bound_once = s.bound_once; used = forms_scoped unit.shared defined unit.forms.items spans ts m s.places };
-  shapes = s.shapes;
-  definitions = s.definitions;
-  shared = s.shared;
 }
 
 named : (names : List (List ℕ)) (gs : List Global1) → map (λ g. slice_get names g.name.0) gs ≡ map (λ n. slice_get names n.0) (map (λ g. g.name) gs)
@@ -72,25 +62,29 @@ unit_prepared trees names forms entries e tops apart s are ts = record {
   names_are = s.names_are;
   globals = rw s.globals are.globals;
   ops = rw s.ops are.ops;
+  kinds = rw s.globals are.kinds;
+  defaults = rw s.ops are.defaults;
 }
 
 pub core_made : (trees : List Tree) (names : List (List ℕ)) (start end : Expansion) (tops : List CodeTop) (bytes : ℕ) (list : FormList) (unit : UnitCore)
-    (spans : List (List Span)) → IsPrepared names trees start tops → Keeps start end
+    (spans : List (List Span)) → IsText names trees → IsPrepared names trees start tops → Keeps start end
     → ((later : Shared) → IsGrown end.shared later → FormsMean (definitions_of (tops_of (map datum_of trees))) later list.forms.items list.spans.items (tops_of (map datum_of trees)))
+    → ((r : Refusal) → RefusedIn (tops_of (map datum_of trees)) r → ⊥) → AreTallied list.forms.items end → end.shared.globals.items ≡ all_settled start.shared.globals.items list.forms.items
     → IsFinished bytes end.shared list unit spans → IsCoreOf trees unit spans
-core_made trees names start end tops bytes list unit spans p keeps meant f =
+core_made trees names start end tops bytes list unit spans text p keeps meant none tallied settled f =
     let m = meant unit.shared f.grown in
     let n : FormsMean (definitions_of (tops_of (map datum_of trees))) unit.shared unit.forms.items spans (tops_of (map datum_of trees)) = rw (f.forms, f.spans_are) m in
     let same : unit.shared.names ≡ names = f.grown.names ∙ keeps.shared.names ∙ p.names_are in
     let globals : map (λ g. g.name) start.shared.globals.items ≡ map (λ g. g.name) unit.shared.globals.items =
     sym keeps.globals ∙ ap (λ l. map (λ g. g.name) l) (sym f.globals) in
     let ops : start.shared.ops.items ≡ unit.shared.ops.items = sym keeps.ops ∙ sym f.ops in
+    let parts = unit_parts trees names start end tops bytes list unit spans text p keeps none tallied settled f n in
     record {
-      whole = sound_whole unit (definitions_of (tops_of (map datum_of trees))) spans (tops_of (map datum_of trees)) f.sound n;
+      whole = whole_unit unit end.next (definitions_of (tops_of (map datum_of trees))) spans (tops_of (map datum_of trees)) parts n;
       forms = n;
       globals = rw same (p.globals ∙ same_globals names start.shared.globals.items unit.shared.globals.items globals);
       ops = rw same (p.ops ∙ ap (λ l. map (λ o. slice_get names o.name.0) l) ops);
-      strings_once = f.sound.strings_once;
+      strings_once = strings_once unit end.next parts;
     }
 
 -- ---- the first refusal

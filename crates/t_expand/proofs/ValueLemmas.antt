@@ -15,13 +15,13 @@ use Rattle.t_rows.specs.Lists.{IsHeldIf}
 use Rattle.t_rows.specs.Bindings.{IsBinder}
 use Rattle.std.specs.List.{AllZip}
 use Rattle.t_rows.specs.Rows.{Definition, define, lset, operation_form, twice}
-use Rattle.t_expand.specs.Meaning.{Nodes, RootMeans, ValueMeans, top_scope}
+use Rattle.expansion.specs.Meaning.{Nodes, RootMeans, ValueMeans, top_scope}
 use Rattle.t_expand.specs.Growth.{IsGrown}
 use Rattle.t_expand.specs.Rooted.{nodes_of}
 use Rattle.t_expand.specs.declared.driver_state.Expansion.{Expansion}
 use Rattle.t_expand.specs.declared.unit_top.Rooted.{Rooted}
 use Rattle.t_expand.proofs.FirstLemmas.{none_of}
-use Rattle.t_expand.specs.Refusals.{Refused, RefusedDefinition, IsFirstOf}
+use Rattle.expansion.specs.Refusals.{Refused, RefusedDefinition, IsFirstOf}
 
 -- the definition is of the form at a place
 pub record HasValue (names : List (List ℕ)) (cells : List Cell) (k : ℕ) (d : Definition) : Type 0 where

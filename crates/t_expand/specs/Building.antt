@@ -1,18 +1,14 @@
 -- Nodes from the nodes of their parts.
-use Rattle.std.specs.Prelude.{◌≡◌, ℕ, zero, suc, Bool, List, [], ◌∷◌, map}
+use Rattle.std.specs.Prelude.{◌≡◌, Bool, List, map}
 use Rattle.t_base.specs.declared.basics.Var.{Var}
 use Rattle.t_core.specs.declared.forms.Core.{Core}
 use Rattle.t_core.specs.declared.forms.Core.TheVariants as Node
 use Rattle.t_core.specs.Nodes.{Part, part, parts_of}
 use Rattle.t_rows.specs.declared.rows.Shape.{Shape}
 use Rattle.t_rows.specs.declared.rows.Shape.TheVariants as shape
+use Rattle.expansion.specs.Lists.{numbered}
 use Rattle.t_expand.specs.declared.build.Done.{Done}
 use Rattle.t_expand.specs.declared.build.Fresh.{Fresh}
-
--- variables with the numbers from a first one on
-abbrev pub numbered : ℕ → ℕ → List Var
-numbered first zero = []
-numbered first (suc n) = record { 0 = first } ∷ numbered (suc first) n
 
 abbrev pub variables_of : Fresh → List Var
 variables_of f = numbered f.first f.count

@@ -9,8 +9,8 @@ use Rattle.t_rows.specs.declared.rows.Part.{Part as CodePart}
 use Rattle.t_rows.specs.declared.rows.Row.TheVariants as coded
 use Rattle.t_rows.specs.Rows.{Shape, Part, row, node}
 use Rattle.t_rows.specs.Given.{IsRow, IsShape, AreParts}
-use Rattle.t_expand.specs.Meaning.{Means, AllMean, Nodes}
-use Rattle.t_expand.specs.Refusals.{Refused}
+use Rattle.expansion.specs.Meaning.{Means, AllMean, Nodes}
+use Rattle.expansion.specs.Refusals.{Refused}
 use Rattle.t_expand.specs.Building.{part_of, variables_of}
 use Rattle.t_expand.specs.Expanding.{IsCovered, IsFirst}
 use Rattle.t_base.specs.declared.basics.Var.{Var}

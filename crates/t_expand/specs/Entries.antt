@@ -9,14 +9,18 @@ use Rattle.t_forms.specs.Held.{IsTable}
 use Rattle.form_rows.specs.declared.definitions.Definition.{Definition as CodeDefinition}
 use Rattle.form_rows.specs.declared.definitions.Definition.TheVariants as code
 use Rattle.t_expand.specs.declared.entries.Entries.{Entries}
-use Rattle.t_expand.specs.Units.{Entry, is_global, meanings_from, texts}
+use Rattle.expansion.specs.Settling.{first_kind, has_default}
+use Rattle.expansion.specs.Units.{Entry, is_global, meanings_from, texts}
 
--- the table says what each name means, and the globals and operations have the names of the entries
+-- the table says what each name means, and the globals and operations have the names of the entries, the kinds that these give first, and
+-- their defaults
 pub record AreEntries (names : List (List ℕ)) (e : Entries) (entries : List Entry) : Type 0 where
   pub table : IsTable names e.table.items (meanings_from 0 3 entries)
   pub globals : map (λ text. Some text) (texts (filter (λ x. is_global x.by) entries)) ≡ map (λ g. slice_get names g.name.0) e.globals.items
   pub ops : map (λ text. Some text) (codes "setter" ∷ codes "contents" ∷ codes "set-contents" ∷ texts (filter (λ x. not (is_global x.by)) entries))
       ≡ map (λ o. slice_get names o.name.0) e.ops.items
+  pub kinds : map (λ g. g.kind) e.globals.items ≡ map (λ x. first_kind x.by) (filter (λ x. is_global x.by) entries)
+  pub defaults : map (λ o. o.default) e.ops.items ≡ false ∷ false ∷ false ∷ map (λ x. has_default x.by) (filter (λ x. not (is_global x.by)) entries)
 
 abbrev pub is_variable : GlobalKind → Bool
 is_variable kind.Variable = true

@@ -4,9 +4,10 @@ use Rattle.t_forms.specs.Data.{Datum}
 use Rattle.t_forms.specs.Names.{Scope}
 use Rattle.t_forms.specs.Held.{Extends, vars_of}
 use Rattle.t_rows.specs.declared.refusal.Refusal.{Refusal}
-use Rattle.t_expand.specs.Meaning.{Means}
-use Rattle.t_expand.specs.Refusals.{Refused, Precedes}
-use Rattle.t_expand.specs.Quoting.{Adds, AddsConstants}
+use Rattle.expansion.specs.Meaning.{Means}
+use Rattle.expansion.specs.Refusals.{Refused, Precedes}
+use Rattle.t_expand.specs.Quoting.{AddsConstants}
+use Rattle.expansion.specs.Lists.{Adds}
 use Rattle.t_expand.specs.declared.driver_state.Expansion.{Expansion}
 
 -- cells, constants and nodes are only added, and a first refusal stays or gives way to an earlier one

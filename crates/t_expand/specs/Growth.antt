@@ -4,7 +4,7 @@ use Rattle.t_base.specs.declared.shared_parts.Const.{Const}
 use Rattle.t_base.specs.declared.shared_parts.Shared.{Shared}
 use Rattle.t_forms.specs.Held.{Extends, IsScope}
 use Rattle.t_forms.specs.Names.{Bound}
-use Rattle.t_expand.specs.Meaning.{top_scope}
+use Rattle.expansion.specs.Meaning.{top_scope}
 use Rattle.t_expand.specs.declared.driver_state.Expansion.{Expansion}
 
 -- The second has the names of the first, and its strings and pairs go on those of the first.

@@ -4,11 +4,9 @@ pub mod Entries
 pub mod Expanding
 pub mod Growth
 pub mod Marks
-pub mod Meaning
 pub mod Outcome
 pub mod Quoting
-pub mod Refusals
 pub mod Rooted
 pub mod SoFar
+pub mod Tallies
 pub mod Tops
-pub mod Units

@@ -12,16 +12,12 @@ use Rattle.t_forms.specs.declared.arena.Form.{Form}
 use Rattle.t_forms.specs.declared.arena.Form.TheVariants as form
 use Rattle.t_forms.specs.Data.{Datum, cons}
 use Rattle.t_forms.specs.Held.{Continues}
-use Rattle.t_expand.specs.Meaning.{IsQuoted}
+use Rattle.expansion.specs.Lists.{Adds}
+use Rattle.expansion.specs.Meaning.{IsQuoted}
 use Rattle.t_expand.specs.declared.quoted.Half.{Half}
 use Rattle.t_expand.specs.declared.quoted.Half.TheVariants as half
 use Rattle.t_expand.specs.declared.quoted.Quoting.{Quoting}
 use Rattle.t_expand.specs.declared.quoted.Quoting.TheVariants as quoting
-
--- the second list goes on the first
-pub record Adds {A : Type 0} (xs ys : List A) : Type 0 where
-  pub more : List A
-  pub is : ys ≡ xs ++ more
 
 -- strings and pairs are only added, and the rest stays
 pub record AddsConstants (old new : Shared) : Type 0 where

@@ -7,7 +7,7 @@ use Rattle.t_forms.specs.declared.scope.Meant.TheVariants as meant
 use Rattle.form_rows.specs.declared.definitions.Definition.{Definition}
 use Rattle.form_rows.specs.declared.definitions.Definition.TheVariants as code
 use Rattle.t_expand.specs.declared.unit_top.Rooted.{Rooted}
-use Rattle.t_expand.specs.Meaning.{Nodes}
+use Rattle.expansion.specs.Meaning.{Nodes}
 
 abbrev pub nodes_of : Rooted → Nodes
 nodes_of x = record { nodes = x.nodes.items; spans = x.spans.items }

@@ -6,9 +6,9 @@ use Rattle.t_expand.specs.declared.driver_state.Expansion.{Expansion}
 use Rattle.t_expand.specs.declared.unit_all.FormList.{FormList}
 use Rattle.t_expand.specs.Growth.{IsGrown, Keeps}
 use Rattle.t_expand.specs.Marks.{Marks}
-use Rattle.t_expand.specs.Meaning.{FormsMean}
-use Rattle.t_expand.specs.Refusals.{IsFirstOf, RefusedAmong}
-use Rattle.t_expand.specs.Units.{Top, names_defined}
+use Rattle.expansion.specs.Meaning.{FormsMean}
+use Rattle.expansion.specs.Refusals.{IsFirstOf, RefusedAmong}
+use Rattle.expansion.specs.Units.{Top, names_defined}
 
 -- the first forms are expanded
 pub record SoFar (start now : Expansion) (marks : List Bool) (list : FormList) (done : List Top) (defined : List Bound) : Type 0 where

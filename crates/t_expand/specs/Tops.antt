@@ -8,7 +8,7 @@ use Rattle.t_forms.specs.Held.{Held}
 use Rattle.form_rows.specs.Definitions.{IsDefinition}
 use Rattle.t_expand.specs.declared.tops.Top.{Top as CodeTop}
 use Rattle.t_expand.specs.declared.tops.Top.TheVariants as code
-use Rattle.t_expand.specs.Units.{Top, defining, broken, expression}
+use Rattle.expansion.specs.Units.{Top, defining, broken, expression}
 
 -- the place of the first of the items, if there is one
 abbrev pub IsOperator : List (List ℕ) → List Cell → Option ℕ → Option (List Datum) → Type 0

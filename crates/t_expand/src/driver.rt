@@ -1,12 +1,13 @@
 // One form becomes nodes: a stack of nodes under way, whose parts are looked at one after the other.
-ghost use Rattle.std.specs.Prelude.{◌≡◌, ◌≢◌, ◌<◌, ◌≤◌, ◌+◌, ◌^◌, ◌++◌, [], List, map, length, drop, vec_len, AllPairs, IfOk, OnOk};
+ghost use Rattle.std.specs.Prelude.{◌≡◌, ◌≢◌, ◌<◌, ◌≤◌, ◌+◌, ◌^◌, ◌++◌, ◌∷◌, [], List, map, length, drop, vec_len, AllPairs, IfOk, OnOk};
 ghost use Rattle.t_forms.specs.Data.{Datum, Name};
 ghost use Rattle.t_forms.specs.Names.{Scope as SpecScope};
 ghost use Rattle.t_forms.specs.Held.{Held, IsScope, Extends, Around};
-ghost use Rattle.t_expand.specs.Building.{numbered};
+ghost use Rattle.expansion.specs.Lists.{numbered};
 ghost use Rattle.t_expand.specs.Expanding.{Grows, Expands};
 ghost use Rattle.t_rows.specs.Given.{AreBinds};
 ghost use Rattle.t_expand.specs.Driving.{Root, Inside, IsUnder, IsBack, IsEnd, IsNext, Finds, Opens};
+ghost use Rattle.t_expand.specs.Tallies.{fresh_done, binds_again as is_bound_again, Takes, roots_of, roots_back, variables_waiting, reserved, Before, Tallied, TalliedNext, KeepsTally};
 ghost use Rattle.t_expand.specs.declared.driver.Waiting.{Waiting as SpecWaiting};
 
 use crate::build::{Done, Fresh, NO_VARS, leaf, node};
@@ -121,11 +122,22 @@ fn find_node(forms: &mut Forms, names: &Names, scope: &Scope, key: u32) -> Resul
 /// Variables from a first one on.
 fn numbered_from(first: u32, count: u32) -> Result<Fresh, Memory>
     ensures count { IfOk result (λ v. v.count ≡ count) }
+    ensures first { IfOk result (λ v. v.first ≡ first) }
     ensures fits { IfOk result (λ v. v.first + v.count < 2 ^ 32) }
 {
     match first.checked_add(count) {
         Some(_) => Ok(Fresh { first, count }),
         None => Err(Memory),
+    }
+}
+
+/// Whether the variables around the next part of a node are those around its parts before.
+fn binds_again(frame: &Frame) -> bool
+    ensures { result ≡ is_bound_again frame.now.shape (fresh_done frame.now.done.items) }
+{
+    match &frame.shape {
+        Shape::Labels => frame.done.first().is_some(),
+        _ => false,
     }
 }
 
@@ -135,14 +147,17 @@ impl Expansion {
         ensures count { IfOk result (λ v. v.count ≡ count) }
         ensures fits { IfOk result (λ v. v.first + v.count < 2 ^ 32) }
         ensures rest { OnOk result (self.new ≡ record self.old { next = self.new.next }) }
+        ensures takes { IfOk result (Takes self.old.next self.new.next frame.now.shape (fresh_done frame.now.done.items)) }
     {
         if count == 0 {
             return Ok(Fresh { first: 0, count });
         }
-        if let Shape::Labels = &frame.shape {
-            if let Some(before) = frame.done.first() {
-                return numbered_from(before.vars.first, count);
-            }
+        if binds_again(frame) {
+            let Some(before) = frame.done.first() else {
+                return Err(Memory);
+            };
+            let vars = numbered_from(before.vars.first, count)?;
+            return Ok(vars);
         }
         let vars = numbered_from(self.next, count)?;
         self.next = vars.first + vars.count;
@@ -150,13 +165,22 @@ impl Expansion {
     }
 
     /// Binds the names around a part in the place of those around the part before, and gives their variables. Where they are the same
-    /// names they stay bound.
+    /// names they stay bound. This comes in LABELS alone: elsewhere names that stay bound are answered by want of memory.
     fn bind_part(&mut self, frame: &Frame, binds: &Binds) -> Result<Fresh, Memory>
         ensures rest { OnOk result (self.new ≡ record self.old { next = self.new.next; scope = self.new.scope }) }
         ensures inside { (at : Around) (around : SpecScope) (last : List Name) (bound : List Name) → IsScope self.old.shared.names at around → Inside self.old.shared.names self.old.scope at around last frame.now.bound → AreBinds self.old.shared.names last binds.now bound → IfOk result (Inside self.old.shared.names self.new.scope at around bound) }
+        ensures takes { IfOk result (Takes self.old.next self.new.next frame.now.shape (fresh_done frame.now.done.items)) }
     {
         match binds {
-            Binds::AsBefore => Ok(frame.bound),
+            Binds::AsBefore => {
+                if frame.bound.count == 0 {
+                    return Ok(frame.bound);
+                }
+                if binds_again(frame) {
+                    return Ok(frame.bound);
+                }
+                Err(Memory)
+            }
             Binds::Names(names) => {
                 unbind_all(&mut self.scope, frame.bound.count);
                 let Ok(count) = u32::try_from(names.len()) else {
@@ -175,19 +199,22 @@ impl Expansion {
         ensures scope { OnOk result (self.new.scope ≡ self.old.scope) }
         ensures tail { IfOk result (λ f. f.tail ≡ tail) }
         ensures opens { (d : Datum) (around : SpecScope) → AllPairs (λ a b. a ≢ b) self.old.shared.names → Held self.old.shared.names self.old.forms key d → IsScope self.old.shared.names self.old.scope around → IfOk result (Opens self.old self.new around d) }
+        ensures keeps { OnOk result (KeepsTally self.old self.new) }
+        ensures none_done { IfOk result (λ f. f.done.items ≡ []) }
     {
         let found = find_node(&mut self.forms, &self.shared.names, &self.scope, key)?;
         let span = match self.forms.get(found.key) {
             Some(cell) => cell.span,
             None => return Err(Memory),
         };
+        let parts = found.parts.len();
         self.first = noted(self.first, found.refusals.as_slice());
         Ok(Frame {
             shape: found.shape,
             span,
             tail,
             parts: found.parts,
-            done: Vec::new(self.alloc),
+            done: Vec::with_capacity(self.alloc, parts)?,
             bound: NO_VARS,
         })
     }
@@ -197,6 +224,7 @@ impl Expansion {
         requires { vec_len frame.done < vec_len frame.parts }
         ensures grows { OnOk result (Grows self.old self.new) }
         ensures under { (root : Root) → AllPairs (λ a b. a ≢ b) self.old.shared.names → IsUnder root self.old waiting.old.items frame → IfOk result (IsUnder root self.new waiting.new.items) }
+        ensures tallied { (before : Before) → Tallied before self.old (roots_of waiting.old.items frame) (reserved waiting.old.items frame) → IfOk result (λ inner. Tallied before self.new (roots_of waiting.new.items inner) (reserved waiting.new.items inner)) }
     {
         let index = frame.done.len();
         let part = &frame.parts[index];
@@ -218,6 +246,7 @@ impl Expansion {
         requires { vec_len frame.parts ≤ vec_len frame.done }
         ensures grows { OnOk result (Grows self.old self.new) }
         ensures back { (root : Root) (waiting : List SpecWaiting) → IsUnder root self.old waiting frame → IfOk result (IsBack root self.new waiting) }
+        ensures tallied { (before : Before) (waiting : List SpecWaiting) → Tallied before self.old (roots_of waiting frame) (reserved waiting frame) → IfOk result (λ key. Tallied before self.new (roots_back waiting key) (variables_waiting waiting)) }
     {
         unbind_all(&mut self.scope, frame.bound.count);
         if self.first.is_some() {
@@ -242,6 +271,7 @@ impl Expansion {
     fn leave(&mut self, waiting: &mut Vec<Waiting>, key: u32) -> Result<Step, Memory>
         ensures grows { OnOk result (Grows self.old self.new) }
         ensures next { (root : Root) → IsBack root self.old waiting.old.items key → IfOk result (IsNext root self.new waiting.new.items) }
+        ensures tallied { (before : Before) → Tallied before self.old (roots_back waiting.old.items key) (variables_waiting waiting.old.items) → IfOk result (TalliedNext before self.new waiting.new.items) }
     {
         match waiting.pop() {
             None => Ok(Step::End(key)),
@@ -266,6 +296,7 @@ impl Expansion {
     fn step(&mut self, waiting: &mut Vec<Waiting>, frame: Frame) -> Result<Step, Memory>
         ensures grows { OnOk result (Grows self.old self.new) }
         ensures next { (root : Root) → AllPairs (λ a b. a ≢ b) self.old.shared.names → IsUnder root self.old waiting.old.items frame → IfOk result (IsNext root self.new waiting.new.items) }
+        ensures tallied { (before : Before) → Tallied before self.old (roots_of waiting.old.items frame) (reserved waiting.old.items frame) → IfOk result (TalliedNext before self.new waiting.new.items) }
     {
         if frame.done.len() < frame.parts.len() {
             let inner = self.enter(waiting, frame)?;
@@ -279,6 +310,7 @@ impl Expansion {
     fn run(&mut self, frame: Frame) -> Result<u32, Memory>
         ensures grows { OnOk result (Grows self.old self.new) }
         ensures end { (root : Root) → AllPairs (λ a b. a ≢ b) self.old.shared.names → IsUnder root self.old [] frame → IfOk result (IsEnd root self.new) }
+        ensures tallied { (before : Before) → Tallied before self.old (roots_of [] frame) (reserved [] frame) → IfOk result (λ root. Tallied before self.new (root ∷ []) []) }
     {
         let mut waiting = Vec::new(self.alloc);
         let mut next = frame;
@@ -296,6 +328,7 @@ impl Expansion {
     pub fn expand_form(&mut self, key: u32) -> Result<u32, Memory>
         ensures grows { OnOk result (Grows self.old self.new) }
         ensures expands { (d : Datum) (around : SpecScope) → AllPairs (λ a b. a ≢ b) self.old.shared.names → Held self.old.shared.names self.old.forms key d → IsScope self.old.shared.names self.old.scope around → IfOk result (Expands self.old self.new around d) }
+        ensures tallied { (before : Before) → Tallied before self.old [] [] → IfOk result (λ root. Tallied before self.new (root ∷ []) []) }
     {
         let frame = self.opened(key, false)?;
         let root = self.run(frame)?;

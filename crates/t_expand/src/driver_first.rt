@@ -1,6 +1,6 @@
 // The first of the refusals so far.
 ghost use Rattle.std.specs.Prelude.{◌≡◌, ◌⊎◌, ◌++◌, ◌∷◌, [], List, Option, Some};
-ghost use Rattle.t_expand.specs.Refusals.{number, Precedes};
+ghost use Rattle.expansion.specs.Refusals.{number, Precedes};
 ghost use Rattle.t_expand.specs.Expanding.{IsFirst};
 ghost use Rattle.t_rows.specs.declared.refusal.Refusal.{Refusal as SpecRefusal};
 

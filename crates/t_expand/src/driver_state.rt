@@ -17,7 +17,7 @@ pub struct NodeList {
 
 impl Model for NodeList {
     ghost use Rattle.std.specs.Prelude.{◌≡◌, length};
-    ghost use Rattle.t_expand.specs.Meaning.{Nodes};
+    ghost use Rattle.expansion.specs.Meaning.{Nodes};
 
     ghost Value = { Nodes };
 

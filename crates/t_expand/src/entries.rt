@@ -6,7 +6,7 @@ ghost use Rattle.t_forms.specs.declared.arena.Cell.{Cell};
 ghost use Rattle.t_rows.specs.Rows.{Definition as SpecDefinition};
 ghost use Rattle.form_rows.specs.Definitions.{IsDefinition};
 ghost use Rattle.t_rows.specs.Bindings.{IsBinder};
-ghost use Rattle.t_expand.specs.Units.{Top as SpecTop, Entry, defined_name, with_top, with_definition, entries_of};
+ghost use Rattle.expansion.specs.Units.{Top as SpecTop, Entry, defined_name, with_top, with_definition, entries_of};
 ghost use Rattle.t_expand.specs.Tops.{IsTop, AreTops};
 ghost use Rattle.t_expand.specs.Entries.{AreEntries, IsGlobalAdded, IsOpAdded, IsPut};
 

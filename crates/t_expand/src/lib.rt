@@ -1,5 +1,5 @@
-//! The expander: from the data of a text to the core of a unit, or to its first refusal. What a unit defines is `specs/Units.antt`, what
-//! a core of a unit is `specs/Meaning.antt`, and its first refusal `specs/Refusals.antt`.
+//! The expander: from the data of a text to the core of a unit, or to its first refusal. What these are is
+//! defined in crate `expansion`.
 #![tactic(auto)]
 
 mod build;
@@ -8,7 +8,6 @@ mod driver_first;
 mod driver_state;
 mod entries;
 mod fault;
-pub mod laws;
 mod quoted;
 mod spans;
 mod tops;
@@ -16,7 +15,6 @@ mod unit;
 mod unit_all;
 mod unit_bytes;
 mod unit_marks;
-mod unit_size;
 mod unit_top;
 
 pub use crate::fault::SyntaxFault;

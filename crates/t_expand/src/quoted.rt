@@ -1,12 +1,16 @@
 // The constant that a datum is. No new variable or builtin thing stands in a datum, nor a reserved word that isn't among the names:
 // there the answer is want of memory.
-ghost use Rattle.std.specs.Prelude.{◌≡◌, ◌++◌, ◌∷◌, [], List, ℕ, slice_get, Some, IfOk, OnOk};
+ghost use Rattle.std.specs.Prelude.{◌≡◌, ◌++◌, ◌∷◌, [], List, ℕ, length, slice_get, Some, IfOk, OnOk};
 ghost use Rattle.t_base.specs.declared.shared_parts.Const.TheVariants as constants;
+ghost use Rattle.t_core.specs.Whole.{pair_in};
 ghost use Rattle.t_forms.specs.declared.arena.Cell.{Cell as SpecCell};
 ghost use Rattle.t_forms.specs.Data.{Datum};
 ghost use Rattle.t_forms.specs.Held.{Held};
-ghost use Rattle.t_expand.specs.Meaning.{IsQuoted};
-ghost use Rattle.t_expand.specs.Quoting.{AddsConstants, Adds, Quotes, IsConstant, spelling};
+ghost use Rattle.expansion.specs.Meaning.{IsQuoted};
+ghost use Rattle.t_expand.specs.Quoting.{AddsConstants, Quotes, IsConstant, spelling};
+ghost use Rattle.expansion.specs.Lists.{Adds};
+ghost use Rattle.expansion.specs.Strings.{string_in};
+ghost use Rattle.t_expand.specs.Tallies.{AreNamed, AreNamedSoFar};
 ghost use Rattle.t_expand.specs.declared.quoted.Quoting.TheVariants as quotings;
 
 use std::alloc::Global;
@@ -76,6 +80,8 @@ fn name_of_word(names: &mut Names, word: Word) -> Result<Name, Memory>
 fn string(strings: &mut Vec<Bytes>, alloc: Global, bytes: &Bytes) -> Result<Const, Memory>
     ensures strings { OnOk result (Adds strings.old.items strings.new.items) }
     ensures made { IfOk result (λ c. (place : ℕ) × (c ≡ constants.Str place) × (slice_get strings.new.items place ≡ Some bytes.now)) }
+    ensures pushed { OnOk result (strings.new.items ≡ strings.old.items ++ bytes.now ∷ []) }
+    ensures last { IfOk result (λ c. c ≡ constants.Str (length strings.old.items)) }
 {
     let place = strings.len();
     if place >= u32::MAX as usize {
@@ -88,6 +94,8 @@ fn string(strings: &mut Vec<Bytes>, alloc: Global, bytes: &Bytes) -> Result<Cons
 fn pair(pairs: &mut Vec<(Const, Const)>, head: Const, tail: Const) -> Result<Const, Memory>
     ensures pairs { OnOk result (Adds pairs.old.items pairs.new.items) }
     ensures made { IfOk result (λ c. (place : ℕ) × (c ≡ constants.Pair place) × (slice_get pairs.new.items place ≡ Some (head, tail))) }
+    ensures pushed { OnOk result (pairs.new.items ≡ pairs.old.items ++ (head, tail) ∷ []) }
+    ensures last { IfOk result (λ c. c ≡ constants.Pair (length pairs.old.items)) }
 {
     let place = pairs.len();
     if place >= u32::MAX as usize {
@@ -100,13 +108,17 @@ fn pair(pairs: &mut Vec<(Const, Const)>, head: Const, tail: Const) -> Result<Con
 fn atom(alloc: Global, form: &Form, shared: &mut Shared) -> Result<Const, Memory>
     ensures adds { OnOk result (AddsConstants shared.old shared.new) }
     ensures constant { IfOk result (IsConstant shared.new form.now) }
+    ensures named { (strings pairs : List ℕ) → AreNamed strings pairs shared.old → IfOk result (λ c. AreNamed (strings ++ string_in c) (pairs ++ pair_in c) shared.new) }
 {
     match form {
         Form::Fix(n) => Ok(Const::Fix(*n)),
         Form::Char(c) => Ok(Const::Char(*c)),
         Form::Nil => Ok(Const::Nil),
         Form::True => Ok(Const::True),
-        Form::Str(bytes) => string(&mut shared.strings, alloc, bytes),
+        Form::Str(text) => {
+            let constant = string(&mut shared.strings, alloc, text.bytes())?;
+            Ok(constant)
+        }
         Form::Sym(name) => Ok(Const::Sym(*name)),
         Form::Word(word) => {
             let name = name_of_word(&mut shared.names, *word)?;
@@ -126,6 +138,7 @@ fn visit(
 ) -> Result<Quoting, Memory>
     ensures adds { OnOk result (AddsConstants shared.old shared.new) }
     ensures quotes { (root : Datum) → Quotes shared.old forms.now waiting.old.items (quotings.Datum at) root → IfOk result (λ next. Quotes shared.new forms.now waiting.new.items next root) }
+    ensures named { (strings pairs : List ℕ) → AreNamedSoFar strings pairs waiting.old.items (quotings.Datum at) shared.old → IfOk result (λ next. AreNamedSoFar strings pairs waiting.new.items next shared.new) }
 {
     match forms.get(at) {
         None => Err(Memory),
@@ -151,6 +164,7 @@ fn deliver(
 ) -> Result<Quoting, Memory>
     ensures adds { OnOk result (AddsConstants shared.old shared.new) }
     ensures quotes { (cells : List SpecCell) (root : Datum) → Quotes shared.old cells (waiting.old.items ++ half ∷ []) (quotings.Made constant) root → IfOk result (λ next. Quotes shared.new cells waiting.new.items next root) }
+    ensures named { (strings pairs : List ℕ) → AreNamedSoFar strings pairs (waiting.old.items ++ half ∷ []) (quotings.Made constant) shared.old → IfOk result (λ next. AreNamedSoFar strings pairs waiting.new.items next shared.new) }
 {
     match half {
         Half::Tail(next) => {
@@ -173,6 +187,7 @@ pub fn constant_of(
 ) -> Result<Const, Memory>
     ensures adds { OnOk result (AddsConstants shared.old shared.new) }
     ensures constant { (d : Datum) → Held shared.old.names forms.now key d → IfOk result (IsQuoted shared.new d) }
+    ensures named { (strings pairs : List ℕ) → AreNamed strings pairs shared.old → IfOk result (λ c. AreNamed (strings ++ string_in c) (pairs ++ pair_in c) shared.new) }
 {
     let mut waiting = Vec::new(alloc);
     let mut next = Quoting::Datum(key);

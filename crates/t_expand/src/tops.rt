@@ -2,7 +2,7 @@
 ghost use Rattle.std.specs.Prelude.{◌≡◌, List, ℕ, ◌∷◌, [], Some, map, IfOk, OnOk};
 ghost use Rattle.t_forms.specs.Data.{Datum, span_of, items_of};
 ghost use Rattle.t_forms.specs.Held.{Held, AllHeld, Extends};
-ghost use Rattle.t_expand.specs.Units.{definition_of_items, definition_in, is_defining, defines, is_herald_items, without_herald, top_of, tops_of};
+ghost use Rattle.expansion.specs.Units.{definition_of_items, definition_in, is_defining, defines, is_herald_items, without_herald, top_of, tops_of};
 ghost use Rattle.t_rows.specs.Lists.{Grows, AreItems};
 ghost use Rattle.form_rows.specs.Definitions.{IsDefinitionIf};
 ghost use Rattle.t_expand.specs.Tops.{IsOperator, IsTop, AreTops, is_herald_head};

@@ -1,5 +1,5 @@
 //! The core of a unit, or its first refusal.
-ghost use Rattle.std.specs.Prelude.{◌≡◌, ◌≢◌, ◌+◌, ◌++◌, ◌≤◌, ◌^◌, ℕ, AllPairs, true, List, length, map, sum_by, IfOk};
+ghost use Rattle.std.specs.Prelude.{[], ◌≡◌, ◌≢◌, ◌+◌, ◌++◌, ◌≤◌, ◌^◌, ℕ, AllPairs, true, List, length, map, sum_by, IfOk};
 ghost use Rattle.t_base.specs.declared.basics.Span.{Span};
 ghost use Rattle.t_reader.specs.Grammar.{Tree};
 ghost use Rattle.t_reader.specs.Unit.{HoldTrees, fixed_names, string_bytes};
@@ -7,15 +7,16 @@ ghost use Rattle.t_reader.specs.Unit.{IsWhole as IsWholeText};
 ghost use Rattle.t_prim.specs.SharedParts.{HasLowerParts};
 ghost use Rattle.t_objects.specs.Operations.{IsTableOf};
 ghost use Rattle.t_core.specs.Counts.{bulk_of};
-ghost use Rattle.core_check.specs.Sound.{IsSound};
+ghost use Rattle.core_size.specs.Sizes.{IsLargest};
 ghost use Rattle.t_forms.specs.Data.{datum_of};
 ghost use Rattle.t_rows.specs.declared.refusal.SyntaxKind.{SyntaxKind};
 ghost use Rattle.t_rows.specs.declared.refusal.Refusal.{Refusal as SpecRefusal};
 ghost use Rattle.t_rows.specs.Rows.{refusal};
-ghost use Rattle.t_expand.specs.Units.{tops_of};
-ghost use Rattle.t_expand.specs.Meaning.{IsCoreOf};
-ghost use Rattle.t_expand.specs.Refusals.{RefusedIn, IsFirstRefusal};
-ghost use Rattle.t_expand.specs.Outcome.{IsRefusedWith, IsStarted, IsPrepared, IsOutcome, IsFinished};
+ghost use Rattle.expansion.specs.Units.{tops_of};
+ghost use Rattle.expansion.specs.Meaning.{IsCoreOf};
+ghost use Rattle.expansion.specs.Refusals.{RefusedIn, IsFirstRefusal};
+ghost use Rattle.t_expand.specs.Outcome.{IsRefusedWith, IsStarted, IsPrepared, IsText, IsOutcome, IsFinished};
+ghost use Rattle.t_expand.specs.Tallies.{AreTallied};
 
 use crate::driver_state::{Expansion, NodeList};
 use crate::entries::{Entries, entries_of};
@@ -24,11 +25,10 @@ use crate::spans::Spans;
 use crate::tops::{Top, tops_of};
 use crate::unit_all::FormList;
 use crate::unit_bytes::{bytes_kept, bytes_read};
-use crate::unit_size::largest;
-use core_check::is_sound;
+use core_size::largest;
 use std::alloc::Global;
 use t_base::{Memory, Names, Shared};
-use t_core::UnitCore;
+use t_core::{Form, UnitCore};
 use t_forms::{Forms, Scope, load};
 use t_objects::OpTable;
 use t_reader::{Node, Unit};
@@ -70,7 +70,8 @@ fn started(alloc: Global, names: Names, forms: Forms, entries: Entries) -> Expan
 
 /// The forms at top level of these data, and what they define.
 fn prepare(alloc: Global, names: Names, nodes: &[Node], keys: &[u32]) -> Result<Prepared, Memory>
-    ensures { (trees : List Tree) (others : List (List ℕ)) → HoldTrees names nodes.now keys.now trees → names ≡ fixed_names ++ others → AllPairs (λ a b. a ≢ b) names → IfOk result (λ p. IsPrepared names trees p.expansion p.tops.items) }
+    ensures prepared { (trees : List Tree) (others : List (List ℕ)) → HoldTrees names nodes.now keys.now trees → names ≡ fixed_names ++ others → AllPairs (λ a b. a ≢ b) names → IfOk result (λ p. IsPrepared names trees p.expansion p.tops.items) }
+    ensures nothing { IfOk result (λ p. AreTallied [] p.expansion) }
 {
     let mut forms = load(alloc, nodes, &names)?;
     let tops = tops_of(&mut forms, &names, keys)?;
@@ -88,19 +89,27 @@ fn fault_of(refusal: Refusal) -> SyntaxFault
     }
 }
 
-/// Whether a unit is as it must be: with the operations of a table, and strings that fit into so many bytes. No test here fails on the
-/// unit of a text: where one does, the answer is want of memory.
-fn is_right(alloc: Global, unit: &UnitCore, ops: &OpTable, bytes: u64) -> Result<bool, Memory>
-    ensures sound { IfOk result (λ b. b ≡ true → IsSound unit.now) }
-    ensures room { IfOk result (λ b. b ≡ true → sum_by length unit.now.shared.strings.items ≤ bytes) }
+/// Whether a unit has the operations of a table, and strings that fit into so many bytes. Both hold of the unit of a text: where one
+/// doesn't, the answer is want of memory.
+fn is_right(unit: &UnitCore, ops: &OpTable, bytes: u64) -> Result<bool, Memory>
+    ensures { IfOk result (λ b. b ≡ true → sum_by length unit.now.shared.strings.items ≤ bytes) }
 {
-    if unit.shared.ops.as_slice() != ops.ops.as_slice() {
-        return Ok(false);
+    let kept = bytes_kept(unit.shared.strings.as_slice())?;
+    Ok(kept <= bytes && unit.shared.ops.as_slice() == ops.ops.as_slice())
+}
+
+/// The count of the largest form. A unit whose counts are together more than 2^31 is answered as want of memory.
+fn size_of(alloc: Global, shared: &Shared, forms: &[Form]) -> Result<u32, Memory>
+    requires lower { HasLowerParts shared.now.pairs.items }
+    ensures { IfOk result (λ n. IsLargest shared.now.pairs.items forms.now n) }
+{
+    let Some(size) = largest(alloc, shared.pairs.as_slice(), forms)? else {
+        return Err(Memory);
+    };
+    match u32::try_from(size) {
+        Ok(size) => Ok(size),
+        Err(_) => Err(Memory),
     }
-    if bytes_kept(unit.shared.strings.as_slice())? > bytes {
-        return Ok(false);
-    }
-    is_sound(alloc, unit)
 }
 
 /// The unit of forms that are made.
@@ -110,14 +119,15 @@ fn finished(
     ops: &OpTable,
     bytes: u64,
 ) -> Result<(UnitCore, Vec<Spans>), Memory>
+    requires lower { HasLowerParts expansion.shared.pairs.items }
     ensures { IfOk result (λ x. IsFinished bytes expansion.shared list x.0 x.1.items) }
 {
     let Expansion { alloc, shared, .. } = expansion;
     let FormList { forms, spans } = list;
-    let size = largest(alloc, &shared, forms.as_slice())?;
+    let size = size_of(alloc, &shared, forms.as_slice())?;
     let shared = Shared { size, ..shared };
     let unit = UnitCore { shared, forms };
-    if is_right(alloc, &unit, ops, bytes)? {
+    if is_right(&unit, ops, bytes)? {
         Ok((unit, spans))
     } else {
         Err(Memory)
@@ -130,8 +140,10 @@ fn expand_prepared(
     ops: &OpTable,
     bytes: u64,
 ) -> Result<(UnitCore, Vec<Spans>), SyntaxFault>
-    ensures outcome { (names : List (List ℕ)) (trees : List Tree) → IsPrepared names trees prepared.expansion prepared.tops.items → IsOutcome trees result }
-    ensures made { IfOk result (λ x. IsSound x.0) }
+    requires nothing { AreTallied [] prepared.expansion }
+    ensures outcome { (names : List (List ℕ)) (trees : List Tree) → IsText names trees → IsPrepared names trees prepared.expansion prepared.tops.items → IsOutcome trees result }
+    ensures bulk { IfOk result (λ x. bulk_of x.0 ≤ 2 ^ 31) }
+    ensures lower { IfOk result (λ x. HasLowerParts x.0.shared.pairs.items) }
     ensures names { (names : List (List ℕ)) (trees : List Tree) → IsPrepared names trees prepared.expansion prepared.tops.items → IfOk result (λ x. x.0.shared.names ≡ names) }
     ensures bytes { IfOk result (λ x. sum_by length x.0.shared.strings.items ≤ bytes) }
 {

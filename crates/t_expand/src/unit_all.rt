@@ -3,10 +3,12 @@ ghost use Rattle.std.specs.Prelude.{◌≡◌, ◌++◌, ◌∷◌, [], List, No
 ghost use Rattle.t_base.specs.declared.shared_parts.Shared.{Shared as SharedParts};
 ghost use Rattle.t_forms.specs.Names.{Bound};
 ghost use Rattle.t_expand.specs.Growth.{IsGrown, Keeps, IsReady};
+ghost use Rattle.expansion.specs.Settling.{all_settled};
+ghost use Rattle.t_expand.specs.Tallies.{AreTallied};
 ghost use Rattle.t_expand.specs.Tops.{AreTops};
-ghost use Rattle.t_expand.specs.Units.{Top as SpecTop};
-ghost use Rattle.t_expand.specs.Meaning.{FormsMean};
-ghost use Rattle.t_expand.specs.Refusals.{RefusedAmong, IsFirstOf};
+ghost use Rattle.expansion.specs.Units.{Top as SpecTop};
+ghost use Rattle.expansion.specs.Meaning.{FormsMean};
+ghost use Rattle.expansion.specs.Refusals.{RefusedAmong, IsFirstOf};
 
 use crate::driver_state::Expansion;
 use crate::spans::Spans;
@@ -43,6 +45,8 @@ impl Expansion {
         ensures kept { (ts : List SpecTop) (defined : List Bound) → IsReady self.old defined → AreTops self.old.shared.names self.old.forms tops.now ts → OnOk result (Keeps self.old self.new) }
         ensures refused { (ts : List SpecTop) (defined : List Bound) → IsReady self.old defined → AreTops self.old.shared.names self.old.forms tops.now ts → self.old.first ≡ None → OnOk result (IsFirstOf (RefusedAmong defined ts) self.new.first) }
         ensures meant { (ts : List SpecTop) (defined : List Bound) → IsReady self.old defined → AreTops self.old.shared.names self.old.forms tops.now ts → self.old.first ≡ None → IfOk result (λ x. self.new.first ≡ None → (later : SharedParts) → IsGrown self.new.shared later → FormsMean defined later x.forms.items x.spans.items ts) }
+        ensures globals { IfOk result (λ x. self.new.shared.globals.items ≡ all_settled self.old.shared.globals.items x.forms.items) }
+        ensures tallied { (self.old.first ≡ None → AreTallied [] self.old) → IfOk result (λ x. self.new.first ≡ None → AreTallied x.forms.items self.new) }
     {
         let alloc = self.alloc;
         let mut marks = NameMarks::new(alloc, self.shared.names.count() as usize)?;

@@ -13,10 +13,14 @@ ghost use Rattle.std.specs.List.{AllZip};
 ghost use Rattle.t_expand.specs.Growth.{IsGrown, Keeps, IsReady};
 ghost use Rattle.t_expand.specs.Marks.{Marks};
 ghost use Rattle.t_expand.specs.Tops.{IsTop};
-ghost use Rattle.t_expand.specs.Units.{Top as SpecTop, defining, meaning_of, names_defined};
-ghost use Rattle.t_expand.specs.Meaning.{RootMeans, ValueMeans, FormMeans, IsKind, top_scope};
-ghost use Rattle.t_expand.specs.Refusals.{Refused, RefusedDefinition, RefusedTop, IsFirstOf, twice_defined};
+ghost use Rattle.expansion.specs.Units.{Top as SpecTop, defining, meaning_of, names_defined};
+ghost use Rattle.expansion.specs.Meaning.{RootMeans, ValueMeans, FormMeans, IsKind, top_scope};
+ghost use Rattle.expansion.specs.Refusals.{Refused, RefusedDefinition, RefusedTop, IsFirstOf, twice_defined};
 ghost use Rattle.t_expand.specs.Rooted.{nodes_of, kind_of};
+ghost use Rattle.expansion.specs.Settling.{settled};
+ghost use Rattle.t_expand.specs.Tallies.{RootTallied, AreTallied};
+ghost use Rattle.t_core.specs.declared.forms.Form.{Form as SpecForm};
+ghost use Rattle.t_core.specs.Whole.{is_lambda_at};
 
 use crate::driver_first::noted;
 use crate::driver_state::{Expansion, NodeList};
@@ -72,7 +76,9 @@ fn kind_of(definition: &Definition, meant: Meant) -> Option<FormKind>
     }
 }
 
-fn is_lambda(nodes: &[Core], root: u32) -> bool {
+fn is_lambda(nodes: &[Core], root: u32) -> bool
+    ensures { result ≡ is_lambda_at nodes.now root }
+{
     match nodes.get(root as usize) {
         Some(node) => matches!(node, Core::Lambda { .. }),
         None => false,
@@ -81,7 +87,8 @@ fn is_lambda(nodes: &[Core], root: u32) -> bool {
 
 /// A global becomes a procedure where its DEFINE has a LAMBDA as root.
 fn settle(globals: &mut Vec<Global1>, kind: FormKind, rooted: &Rooted)
-    ensures { map (λ g. g.name) globals.new.items ≡ map (λ g. g.name) globals.old.items }
+    ensures names { map (λ g. g.name) globals.new.items ≡ map (λ g. g.name) globals.old.items }
+    ensures settled { globals.new.items ≡ settled globals.old.items kind rooted.now.nodes.items rooted.now.root }
 {
     if let FormKind::Define(place) = kind {
         let at = place as usize;
@@ -109,6 +116,8 @@ impl Expansion {
     fn note(&mut self, refusals: &[Refusal])
         ensures kept { Keeps self.old self.new }
         ensures first { IsFirstOf (λ r. (self.old.first ≡ Some r) ⊎ Contains refusals.now r) self.new.first }
+        ensures shared { self.new.shared ≡ self.old.shared }
+        ensures next { self.new.next ≡ self.old.next }
     {
         self.first = noted(self.first, refusals);
     }
@@ -132,6 +141,9 @@ impl Expansion {
         ensures lengths { IfOk result (λ x. length x.spans.items ≡ length x.nodes.items) }
         ensures refused { (d : Datum) (defined : List Bound) → IsReady self.old defined → Held self.old.shared.names self.old.forms key d → OnOk result (IsFirstOf (λ r. (self.old.first ≡ Some r) ⊎ Refused (top_scope defined) d r) self.new.first) }
         ensures meant { (d : Datum) (defined : List Bound) → IsReady self.old defined → Held self.old.shared.names self.old.forms key d → IfOk result (λ x. self.new.first ≡ None → (later : SharedParts) → IsGrown self.new.shared later → RootMeans defined later (nodes_of x) d x.root) }
+        ensures globals { OnOk result (self.new.shared.globals.items ≡ self.old.shared.globals.items) }
+        ensures first { OnOk result (self.new.first ≡ None → self.old.first ≡ None) }
+        ensures tallied { (forms : List SpecForm) → (self.old.first ≡ None → AreTallied forms self.old) → IfOk result (λ x. self.new.first ≡ None → RootTallied forms x self.new) }
     {
         let alloc = self.alloc;
         self.nodes = NodeList::new(alloc);
@@ -148,6 +160,9 @@ impl Expansion {
         ensures spans { IfOk result (λ x. x.spans.items ≡ []) }
         ensures root { IfOk result (λ x. x.root ≡ 0) }
         ensures refused { (bs : List SpecBinder) (defined : List Bound) → IsReady self.old defined → AllZip (IsBinder self.old.shared.names) params.now bs → OnOk result (IsFirstOf (λ r. (self.old.first ≡ Some r) ⊎ Contains (twice bs) r) self.new.first) }
+        ensures globals { OnOk result (self.new.shared.globals.items ≡ self.old.shared.globals.items) }
+        ensures first { OnOk result (self.new.first ≡ None → self.old.first ≡ None) }
+        ensures tallied { (forms : List SpecForm) → (self.old.first ≡ None → AreTallied forms self.old) → IfOk result (λ x. self.new.first ≡ None → RootTallied forms x self.new) }
     {
         let refusals = twice(self.alloc, params)?;
         self.note(refusals.as_slice());
@@ -160,6 +175,9 @@ impl Expansion {
         ensures lengths { IfOk result (λ x. length x.spans.items ≡ length x.nodes.items) }
         ensures refused { (d : SpecDefinition) (defined : List Bound) → IsReady self.old defined → IsDefinition self.old.shared.names self.old.forms definition.now d → OnOk result (IsFirstOf (λ r. (self.old.first ≡ Some r) ⊎ RefusedDefinition defined d r) self.new.first) }
         ensures meant { (d : SpecDefinition) (defined : List Bound) → IsReady self.old defined → IsDefinition self.old.shared.names self.old.forms definition.now d → IfOk result (λ x. self.new.first ≡ None → (later : SharedParts) → IsGrown self.new.shared later → ValueMeans defined later (nodes_of x) d x.root) }
+        ensures globals { OnOk result (self.new.shared.globals.items ≡ self.old.shared.globals.items) }
+        ensures first { OnOk result (self.new.first ≡ None → self.old.first ≡ None) }
+        ensures tallied { (forms : List SpecForm) → (self.old.first ≡ None → AreTallied forms self.old) → IfOk result (λ x. self.new.first ≡ None → RootTallied forms x self.new) }
     {
         match definition {
             Definition::Define { value, .. } => self.expand_root(*value),
@@ -198,6 +216,9 @@ impl Expansion {
         ensures kept { OnOk result (Keeps self.old self.new) }
         ensures refused { (before : List SpecTop) (defined : List Bound) (b : SpecBinder) → IsReady self.old defined → IsBinder self.old.shared.names name b → Marks self.old.shared.names marks.old (names_defined before) → OnOk result (IsFirstOf (λ r. (self.old.first ≡ Some r) ⊎ Contains (twice_defined before b) r) self.new.first) }
         ensures marked { (before : List SpecTop) (defined : List Bound) (b : SpecBinder) → IsReady self.old defined → IsBinder self.old.shared.names name b → Marks self.old.shared.names marks.old (names_defined before) → OnOk result (Marks self.old.shared.names marks.new (names_defined before ++ b.name ∷ [])) }
+        ensures shared { OnOk result (self.new.shared ≡ self.old.shared) }
+        ensures next { OnOk result (self.new.next ≡ self.old.next) }
+        ensures first { OnOk result (self.new.first ≡ None → self.old.first ≡ None) }
     {
         if marks.mark(name.name)? {
             let refusal = Refusal {
@@ -218,6 +239,8 @@ impl Expansion {
         ensures refused { (before : List SpecTop) (d : SpecDefinition) (defined : List Bound) → IsReady self.old defined → IsDefinition self.old.shared.names self.old.forms definition.now d → Marks self.old.shared.names marks.old (names_defined before) → OnOk result (IsFirstOf (λ r. (self.old.first ≡ Some r) ⊎ RefusedTop defined before (defining d) r) self.new.first) }
         ensures marked { (before : List SpecTop) (d : SpecDefinition) (defined : List Bound) → IsReady self.old defined → IsDefinition self.old.shared.names self.old.forms definition.now d → Marks self.old.shared.names marks.old (names_defined before) → OnOk result (Marks self.old.shared.names marks.new (names_defined (before ++ defining d ∷ []))) }
         ensures meant { (d : SpecDefinition) (defined : List Bound) → IsReady self.old defined → IsDefinition self.old.shared.names self.old.forms definition.now d → IfOk result (λ x. self.new.first ≡ None → (later : SharedParts) → IsGrown self.new.shared later → FormMeans defined later x.form x.spans (defining d)) }
+        ensures globals { IfOk result (λ x. self.new.shared.globals.items ≡ settled self.old.shared.globals.items x.form.kind x.form.nodes.items x.form.root) }
+        ensures tallied { (forms : List SpecForm) → (self.old.first ≡ None → AreTallied forms self.old) → IfOk result (λ x. self.new.first ≡ None → AreTallied (forms ++ x.form ∷ []) self.new) }
     {
         self.look_for_twice(marks, defined_name(definition))?;
         let rooted = self.expand_value(definition)?;
@@ -229,6 +252,8 @@ impl Expansion {
     fn expand_broken(&mut self, span: Span) -> Expanded
         ensures kept { Keeps self.old self.new }
         ensures refused { IsFirstOf (λ r. (self.old.first ≡ Some r) ⊎ (r ≡ refusal SyntaxKind.BadForm span)) self.new.first }
+        ensures globals { self.new.shared.globals.items ≡ settled self.old.shared.globals.items result.form.kind result.form.nodes.items result.form.root }
+        ensures tallied { (forms : List SpecForm) → (self.old.first ≡ None → AreTallied forms self.old) → self.new.first ≡ None → AreTallied (forms ++ result.form ∷ []) self.new }
     {
         let refusal = Refusal {
             kind: SyntaxKind::BadForm,
@@ -245,6 +270,8 @@ impl Expansion {
         ensures refused { (before : List SpecTop) (t : SpecTop) (defined : List Bound) → IsReady self.old defined → IsTop self.old.shared.names self.old.forms top.now t → Marks self.old.shared.names marks.old (names_defined before) → OnOk result (IsFirstOf (λ r. (self.old.first ≡ Some r) ⊎ RefusedTop defined before t r) self.new.first) }
         ensures marked { (before : List SpecTop) (t : SpecTop) (defined : List Bound) → IsReady self.old defined → IsTop self.old.shared.names self.old.forms top.now t → Marks self.old.shared.names marks.old (names_defined before) → OnOk result (Marks self.old.shared.names marks.new (names_defined (before ++ t ∷ []))) }
         ensures meant { (t : SpecTop) (defined : List Bound) → IsReady self.old defined → IsTop self.old.shared.names self.old.forms top.now t → IfOk result (λ x. self.new.first ≡ None → (later : SharedParts) → IsGrown self.new.shared later → FormMeans defined later x.form x.spans t) }
+        ensures globals { IfOk result (λ x. self.new.shared.globals.items ≡ settled self.old.shared.globals.items x.form.kind x.form.nodes.items x.form.root) }
+        ensures tallied { (forms : List SpecForm) → (self.old.first ≡ None → AreTallied forms self.old) → IfOk result (λ x. self.new.first ≡ None → AreTallied (forms ++ x.form ∷ []) self.new) }
     {
         match top {
             Top::Defining(definition) => self.expand_defining(marks, definition),

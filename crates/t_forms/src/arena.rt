@@ -27,6 +27,38 @@ pub enum New {
     Part(u32),
 }
 
+/// The bytes of a string, kept apart, so that a form is small. Contracts see the list of the bytes.
+#[derive(Drop)]
+pub struct Text {
+    bytes: Box<Bytes>,
+}
+
+impl Model for Text {
+    ghost use Rattle.std.specs.Prelude.{List, ℕ};
+
+    ghost Value = { List ℕ };
+
+    ghost view = { λ t. t.bytes.value };
+}
+
+impl Text {
+    /// The same bytes. The only error is the want of memory.
+    pub fn copy(alloc: Global, bytes: &Bytes) -> Result<Text, Memory>
+        ensures { IfOk result (λ text. text ≡ bytes.now) }
+    {
+        let copy = bytes.copy(alloc)?;
+        let bytes = Box::new(alloc, copy)?;
+        Ok(Text { bytes })
+    }
+
+    /// The bytes. It takes no memory.
+    pub fn bytes(&self) -> &Bytes
+        ensures { result.now ≡ self.now }
+    {
+        &self.bytes
+    }
+}
+
 /// What a cell is. A symbol that is a reserved word is a `Word`.
 #[derive(Drop)]
 pub enum Form {
@@ -39,7 +71,7 @@ pub enum Form {
     /// The true value.
     True,
     /// A string.
-    Str(Bytes),
+    Str(Text),
     /// A symbol that is no reserved word, by its place among the names.
     Sym(Name),
     /// A reserved word.

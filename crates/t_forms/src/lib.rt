@@ -11,7 +11,7 @@ mod making;
 mod reading;
 mod scope;
 
-pub use crate::arena::{Cell, Form, Forms, New};
+pub use crate::arena::{Cell, Form, Forms, New, Text};
 pub use crate::builtins::builtin_of;
 pub use crate::loading::load;
 pub use crate::scope::{Defined, Local, LocalName, Meant, Scope};

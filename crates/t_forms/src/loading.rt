@@ -9,7 +9,7 @@ ghost use Rattle.t_objects.specs.Words.{word_named};
 ghost use Rattle.t_forms.specs.Data.{Datum as SpecDatum, given, atom, cons, datum_of};
 ghost use Rattle.t_forms.specs.Held.{Held, IsSymbol, Extends};
 
-use crate::arena::{Form, Forms};
+use crate::arena::{Form, Forms, Text};
 use std::alloc::Global;
 use t_base::{Memory, Name, Names};
 use t_objects::word_of;
@@ -43,7 +43,7 @@ fn load_node(forms: &mut Forms, names: &Names, node: &Node) -> Result<u32, Memor
         Datum::Nil => forms.atom(node.span, Form::Nil),
         Datum::True => forms.atom(node.span, Form::True),
         Datum::Str(bytes) => {
-            let copy = bytes.copy(forms.alloc())?;
+            let copy = Text::copy(forms.alloc(), bytes)?;
             forms.atom(node.span, Form::Str(copy))
         }
         Datum::Sym(name) => forms.atom(node.span, symbol(names, *name)),

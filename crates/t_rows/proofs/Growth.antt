@@ -83,6 +83,25 @@ items_list names cells k s (d ∷ ds) h = (
   items_list names cells h.2 s ds h.7,
 )
 
+-- where the first cell has the span, the items are the list
+pub items_held : (names : List (List ℕ)) (cells : List Cell) (k : ℕ) (x : Cell) (s : Span) (ds : List Datum) → Some x ≡ slice_get cells k → x.span ≡ s → AreItems names cells k ds
+    → Held names cells k (listed s ds)
+unfolding items_list
+items_held names cells k x s [] p e h =
+    let u : h.0 ≡ s = cc in
+    (form.Nil, subst (λ (v : Span). slice_get cells k ≡ Some (cell v form.Nil)) u h.1, refl)
+items_held names cells k x s (d ∷ ds) p e h =
+    let u : h.0 ≡ s = cc in
+    let r = items_list names cells k s (d ∷ ds) h in (
+      h.1,
+      h.2,
+      subst (λ (v : Span). slice_get cells k ≡ Some (cell v (form.Pair h.1 h.2 (count_of (listed s (d ∷ ds)))))) u r.3,
+      h.4,
+      h.5,
+      h.6,
+      r.7,
+    )
+
 pub cons_made : (a : List Cell) (b : List Cell) (names : List (List ℕ)) (s : Span) (k i j n m : ℕ) (d : Datum) (ds : List Datum) → b ≡ a ++ cell s (form.Pair i j (Some m)) ∷ [] → k ≡ length a → n ≡ length ds
     → m ≡ n + 1 → Held names a i d → AreItems names a j ds → AreItems names b k (d ∷ ds)
 cons_made a b names s k i j n m d ds e l c p h r =

@@ -1,5 +1,5 @@
 -- Pieces of templates.
-use Rattle.std.proofs.Common.{◌≡◌, ℕ, ◌+◌, ◌<◌, add-one, drop-cons, List, [], ◌∷◌, ◌++◌, length, reverse, drop, get_or, slice_get, Option, Some, None, refl, sym, subst}
+use Rattle.std.proofs.Common.{◌≡◌, ℕ, ◌+◌, ◌<◌, add-one, drop-cons, List, [], ◌∷◌, ◌++◌, length, reverse, drop, get_or, slice_get, Option, Some, None, unwrap_or, refl, sym, subst}
 use Rattle.std.proofs.lemmas.List.{reverse-append}
 use Rattle.t_base.specs.declared.basics.Span.{Span}
 use Rattle.t_objects.specs.declared.words.Word.{Word}
@@ -104,6 +104,11 @@ pub ended_list : (names : List (List ℕ)) (a b : List Cell) (items made : ℕ) 
     → AreItems names b made ds → AreOpen names b made outer (ended ds st)
 ended_list names a b items made outer ds [] g h k = absurd h
 ended_list names a b items made outer ds (t ∷ others) g h k = (k, all_lists_grow g names (reverse outer) others h.1)
+
+pub rest_items : (names : List (List ℕ)) (cells : List Cell) (nil : ℕ) (rest : Option ℕ) (ds : List Datum) → AreItems names cells nil [] → AreRest names cells rest ds
+    → AreItems names cells (unwrap_or rest nil) ds
+rest_items names cells nil None ds none h = rw h none
+rest_items names cells nil (Some k) ds none h = h
 
 pub closed_list : (names : List (List ℕ)) (a b : List Cell) (items made : ℕ) (outer : List ℕ) (st : List (List Datum)) → Grows a b → AreOpen names a items outer st
     → AreItems names b made [] → AreOpen names b made (outer ++ items ∷ []) ([] ∷ st)

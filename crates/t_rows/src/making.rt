@@ -1,5 +1,5 @@
 //! Cells of forms that rows make.
-ghost use Rattle.std.specs.Prelude.{◌++◌, ◌≡◌, ◌∷◌, [], List, ℕ, IfOk, OnOk};
+ghost use Rattle.std.specs.Prelude.{◌++◌, ◌≡◌, ◌∷◌, [], List, ℕ, true, IfOk, OnOk};
 ghost use Rattle.t_forms.specs.Data.{Atom, Datum, atom, listed};
 ghost use Rattle.t_forms.specs.Held.{Held, IsAtom};
 ghost use Rattle.t_rows.specs.Lists.{Grows, AreHeld, AreItems};
@@ -41,11 +41,24 @@ pub fn cons(forms: &mut Forms, span: Span, head: u32, tail: u32) -> Result<u32, 
     Ok(key)
 }
 
-/// The list of items.
+/// Whether the cell at a place has a span.
+fn has_span(forms: &Forms, items: u32, span: Span) -> bool
+    ensures { (names : List (List ℕ)) (ds : List Datum) → AreItems names forms.now items ds → result ≡ true → Held names forms.now items (listed span ds) }
+{
+    match forms.get(items) {
+        Some(cell) => cell.span.start == span.start && cell.span.end == span.end,
+        None => false,
+    }
+}
+
+/// The list of items. Where their first cell has the span, it is the list.
 pub fn list_of(forms: &mut Forms, span: Span, items: u32) -> Result<u32, Memory>
     ensures grown { OnOk result (Grows forms.old forms.new) }
     ensures made { (names : List (List ℕ)) (ds : List Datum) → AreItems names forms.old items ds → IfOk result (λ key. Held names forms.new key (listed span ds)) }
 {
+    if has_span(forms, items, span) {
+        return Ok(items);
+    }
     match split(forms, items) {
         None => {
             let nil = forms.add(span, Form::Nil)?;

@@ -79,7 +79,7 @@ pub fn params_of(forms: &Forms, key: u32) -> Result<Option<Vec<Binder>>, Memory>
 pub fn names_of(alloc: Global, binders: &[Binder]) -> Result<Vec<LocalName>, Memory>
     ensures { (texts : List (List ℕ)) (bs : List SpecBinder) → AllZip (IsBinder texts) binders.now bs → IfOk result (λ ns. AreNames texts ns.items (names bs)) }
 {
-    let mut names = Vec::new(alloc);
+    let mut names = Vec::with_capacity(alloc, binders.len())?;
     'binders: for binder in binders {
         names.push(binder.name)?;
     }

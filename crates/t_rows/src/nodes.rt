@@ -57,7 +57,7 @@ pub fn no_row(forms: &mut Forms, span: Span) -> Result<Row, Memory>
 pub fn plain_parts(forms: &Forms, keys: &[u32]) -> Result<Vec<Part>, Memory>
     ensures { (names : List (List ℕ)) (ds : List Datum) → AreHeld names forms.now keys.now ds → IfOk result (λ parts. AreParts names forms.now [] parts.items (map plain ds)) }
 {
-    let mut parts = Vec::new(forms.alloc());
+    let mut parts = Vec::with_capacity(forms.alloc(), keys.len())?;
     'parts: for form in keys {
         parts.push(Part {
             binds: Binds::Names(Vec::new(forms.alloc())),
@@ -84,7 +84,7 @@ pub fn plain_node(forms: &mut Forms, shape: Shape, keys: &[u32]) -> Result<Row, 
 pub fn one_part(forms: &Forms, binds: Vec<LocalName>, form: u32) -> Result<Vec<Part>, Memory>
     ensures { (names : List (List ℕ)) (ns : List Name) (d : Datum) → AreNames names binds.items ns → Held names forms.now form d → IfOk result (λ parts. AreParts names forms.now [] parts.items (inside ns d ∷ [])) }
 {
-    let mut parts = Vec::new(forms.alloc());
+    let mut parts = Vec::with_capacity(forms.alloc(), 1)?;
     parts.push(Part {
         binds: Binds::Names(binds),
         form,

@@ -2,7 +2,8 @@
 ghost use Rattle.std.specs.Prelude.{◌≡◌, ◌∷◌, [], List, ℕ, slice_get, IfOk, OnOk};
 ghost use Rattle.t_forms.specs.Data.{Datum};
 ghost use Rattle.t_forms.specs.Held.{Held, IsAtom};
-ghost use Rattle.t_rows.specs.Lists.{Grows, AreHeld, AreLists, AreOpen, AreRest};
+ghost use Rattle.t_forms.specs.declared.arena.Cell.{Cell};
+ghost use Rattle.t_rows.specs.Lists.{Grows, AreHeld, AreItems, AreLists, AreOpen, AreRest};
 ghost use Rattle.t_rows.specs.Templates.{atom_of, item, item_of, opened, ended, before, written_list};
 
 use crate::making::{cons, list_of, made, no_items};
@@ -104,56 +105,40 @@ fn open(forms: &mut Forms, span: Span, lists: &mut OpenLists) -> Result<(), Memo
     }
 }
 
-/// Goes into a list inside the innermost one.
-fn close(forms: &mut Forms, span: Span, lists: &mut OpenLists) -> Result<(), Memory>
-    ensures grown { OnOk result (Grows forms.old forms.new) }
-    ensures put { (names : List (List ℕ)) (st : List (List Datum)) → AreOpen names forms.old lists.old.items lists.old.outer.items st → OnOk result (AreOpen names forms.new lists.new.items lists.new.outer.items ([] ∷ st)) }
+/// Goes into a list inside the innermost one. It has no items yet: those of `nil`.
+fn close(nil: u32, lists: &mut OpenLists) -> Result<(), Memory>
+    ensures { (names : List (List ℕ)) (cells : List Cell) (st : List (List Datum)) → AreItems names cells nil [] → AreOpen names cells lists.old.items lists.old.outer.items st → OnOk result (AreOpen names cells lists.new.items lists.new.outer.items ([] ∷ st)) }
 {
-    let items = no_items(forms, span)?;
     lists.outer.push(lists.items)?;
-    lists.items = items;
+    lists.items = nil;
     Ok(())
 }
 
-/// Puts a rest into the innermost list.
-fn end(
-    forms: &mut Forms,
-    span: Span,
-    rest: Option<u32>,
-    lists: &mut OpenLists,
-) -> Result<(), Memory>
-    ensures grown { OnOk result (Grows forms.old forms.new) }
-    ensures put { (names : List (List ℕ)) (ds : List Datum) (st : List (List Datum)) → AreRest names forms.old rest ds → AreOpen names forms.old lists.old.items lists.old.outer.items st → OnOk result (AreOpen names forms.new lists.new.items lists.new.outer.items (ended ds st)) }
+/// Puts a rest into the innermost list; without one it has no items, those of `nil`.
+fn end(nil: u32, rest: Option<u32>, lists: &mut OpenLists)
+    ensures { (names : List (List ℕ)) (cells : List Cell) (ds : List Datum) (st : List (List Datum)) → AreItems names cells nil [] → AreRest names cells rest ds → AreOpen names cells lists.old.items lists.old.outer.items st → AreOpen names cells lists.new.items lists.new.outer.items (ended ds st) }
 {
-    match rest {
-        Some(items) => {
-            lists.items = items;
-            Ok(())
-        }
-        None => {
-            lists.items = no_items(forms, span)?;
-            Ok(())
-        }
-    }
+    lists.items = rest.unwrap_or(nil);
 }
 
-/// Puts a piece before what stands behind it.
+/// Puts a piece before what stands behind it. `nil` is no items.
 fn place(
     forms: &mut Forms,
     span: Span,
     given: &[u32],
     rests: &[u32],
+    nil: u32,
     piece: Piece,
     lists: &mut OpenLists,
 ) -> Result<(), Memory>
     ensures grown { OnOk result (Grows forms.old forms.new) }
-    ensures put { (names : List (List ℕ)) (ds : List Datum) (dss : List (List Datum)) (st : List (List Datum)) → AreHeld names forms.old given.now ds → AreLists names forms.old rests.now dss → AreOpen names forms.old lists.old.items lists.old.outer.items st → OnOk result (AreOpen names forms.new lists.new.items lists.new.outer.items (before span ds dss piece st)) }
+    ensures put { (names : List (List ℕ)) (ds : List Datum) (dss : List (List Datum)) (st : List (List Datum)) → AreHeld names forms.old given.now ds → AreLists names forms.old rests.now dss → AreItems names forms.old nil [] → AreOpen names forms.old lists.old.items lists.old.outer.items st → OnOk result (AreOpen names forms.new lists.new.items lists.new.outer.items (before span ds dss piece st)) }
 {
     match piece {
         Piece::Open => open(forms, span, lists),
-        Piece::Close => close(forms, span, lists),
+        Piece::Close => close(nil, lists),
         Piece::Rest(at) => {
-            end(forms, span, key_at(rests, at), lists)?;
+            end(nil, key_at(rests, at), lists);
             Ok(())
         }
         piece => {
@@ -175,15 +160,15 @@ pub fn written(
     ensures grown { OnOk result (Grows forms.old forms.new) }
     ensures made { (names : List (List ℕ)) (ds : List Datum) (dss : List (List Datum)) → AreHeld names forms.old given.now ds → AreLists names forms.old rests.now dss → IfOk result (λ key. Held names forms.new key (written_list span ds dss template.now)) }
 {
-    let items = no_items(forms, span)?;
+    let nil = no_items(forms, span)?;
     let mut lists = OpenLists {
-        items,
+        items: nil,
         outer: Vec::new(forms.alloc()),
     };
     let mut at = template.len();
     'pieces: while at > 0 {
         at -= 1;
-        place(forms, span, given, rests, template[at], &mut lists)?;
+        place(forms, span, given, rests, nil, template[at], &mut lists)?;
     }
     let list = list_of(forms, span, lists.items)?;
     Ok(list)

@@ -14,7 +14,7 @@ no_binding = record { name = record { at = record { start = 0; end = 0 }; name =
 
 pub bindings-init : goal.bindings-init
 bindings-init c names xs h =
-    rw c.new-parts.ensures.items (none_collected (IsBinding names c.args.forms.now) (IsPart names c.args.forms.now) (λ x. plain x.value) xs h)
+    rw c.in_ok-parts.ensures.items (none_collected (IsBinding names c.args.forms.now) (IsPart names c.args.forms.now) (λ x. plain x.value) xs h)
 
 pub bindings-preserved : goal.bindings-preserved
 unfolding no_binding

@@ -1,5 +1,5 @@
 use Rattle.std.proofs.Common.{◌≡◌}
-use Rattle.t_expand.specs.Building.{numbered}
+use Rattle.expansion.specs.Lists.{numbered}
 use Rattle.t_expand.proofs.build.variables.Given as goal
 
 abbrev pub invariant-loop-k : goal.invariant-loop-k

@@ -1,5 +1,5 @@
 use Rattle.std.proofs.Common.{◌≡◌, ◌+◌, ◌-◌, ◌≤◌, ◌++◌, map, drop, length}
-use Rattle.t_expand.specs.Building.{numbered}
+use Rattle.expansion.specs.Lists.{numbered}
 use Rattle.t_expand.proofs.driver.bind_all.Given as goal
 
 abbrev pub invariant-names : goal.invariant-names

@@ -2,7 +2,7 @@ use Rattle.std.proofs.Common.{◌≡◌, ◌≤◌, List, [], ◌∷◌, ◌++�
 use Rattle.std.proofs.lemmas.List.{take_all}
 use Rattle.std.proofs.lemmas.List.Sums.{fold-append}
 use Rattle.t_expand.specs.Entries.{AreEntries}
-use Rattle.t_expand.specs.Units.{Top, with_top, entries_of}
+use Rattle.expansion.specs.Units.{Top, with_top, entries_of}
 use Rattle.t_expand.proofs.SoFarLemmas.{top_at, as_many}
 use Rattle.t_expand.proofs.entries.entries_of.Goals as goal
 

@@ -3,7 +3,7 @@ use Rattle.t_reader.specs.Unit.{fixed_names}
 use Rattle.t_forms.specs.declared.arena.Cell.{Cell}
 use Rattle.t_expand.specs.Entries.{AreEntries}
 use Rattle.t_expand.specs.Tops.{AreTops}
-use Rattle.t_expand.specs.Units.{Top, entries_of}
+use Rattle.expansion.specs.Units.{Top, entries_of}
 use Rattle.t_expand.proofs.entries.entries_of.Given as goal
 
 abbrev pub invariant-tops : goal.invariant-tops

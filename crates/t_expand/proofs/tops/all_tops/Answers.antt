@@ -3,7 +3,7 @@ use Rattle.std.proofs.lemmas.List.{take_all}
 use Rattle.t_forms.specs.Data.{Datum}
 use Rattle.t_forms.proofs.Keeping.{extends_trans}
 use Rattle.t_expand.specs.Tops.{AreTops}
-use Rattle.t_expand.specs.Units.{top_of}
+use Rattle.expansion.specs.Units.{top_of}
 use Rattle.t_expand.proofs.TopLemmas.{next_top, as_many_held}
 use Rattle.t_expand.proofs.tops.all_tops.Goals as goal
 

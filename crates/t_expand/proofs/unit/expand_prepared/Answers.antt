@@ -1,17 +1,18 @@
 use Rattle.std.proofs.Common.{map}
 use Rattle.t_forms.specs.Data.{datum_of}
 use Rattle.t_expand.specs.Tops.{AreTops}
-use Rattle.t_expand.specs.Units.{tops_of as forms_of, definitions_of}
+use Rattle.expansion.specs.Units.{tops_of as forms_of, definitions_of}
 use Rattle.t_expand.proofs.UnitLemmas.{core_made, nothing_refused}
 use Rattle.t_expand.proofs.unit.expand_prepared.Goals as goal
 
 pub returns-clause-outcome : goal.returns-clause-outcome
-returns-clause-outcome c names trees p =
+returns-clause-outcome c names trees text p =
     let ts = forms_of (map datum_of trees) in
     let defined = definitions_of (forms_of (map datum_of trees)) in
-    let are : AreTops c.args.prepared.expansion.shared.names c.args.prepared.expansion.forms c.as_slice.result.now ts = rw c.as_slice.ensures.value p.tops_are in (
+    let are : AreTops c.args.prepared.expansion.shared.names c.args.prepared.expansion.forms c.as_slice.result.now ts = rw c.as_slice.ensures.value p.tops_are in
+    let none = nothing_refused trees c.expand_all.new.self.first c.in-None.is (c.in_ok-list.ensures.refused ts defined p.ready are p.first) in (
       core_made trees names c.args.prepared.expansion c.expand_all.new.self c.args.prepared.tops.items c.args.bytes c.in_ok-list.list c.in_ok-made-in-None.made.0
-          c.in_ok-made-in-None.made.1.items p (c.in_ok-list.ensures.kept ts defined p.ready are) (c.in_ok-list.ensures.meant ts defined p.ready are p.first c.in-None.is)
-          c.in_ok-made-in-None.ensures,
-      nothing_refused trees c.expand_all.new.self.first c.in-None.is (c.in_ok-list.ensures.refused ts defined p.ready are p.first),
+          c.in_ok-made-in-None.made.1.items text p (c.in_ok-list.ensures.kept ts defined p.ready are) (c.in_ok-list.ensures.meant ts defined p.ready are p.first c.in-None.is) none
+          (c.in_ok-list.ensures.tallied (λ h. c.requires.nothing) c.in-None.is) c.in_ok-list.ensures.globals c.in_ok-made-in-None.ensures,
+      none,
     )

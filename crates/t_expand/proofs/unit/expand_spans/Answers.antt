@@ -1,4 +1,4 @@
-use Rattle.std.proofs.Common.{List}
+use Rattle.std.proofs.Common.{List, refl}
 use Rattle.t_reader.specs.Grammar.{Tree}
 use Rattle.t_reader.specs.Unit.{HoldTrees, string_bytes}
 use Rattle.t_expand.specs.Outcome.{IsPrepared, IsOutcome}
@@ -10,11 +10,12 @@ is_prepared : (c : After-drop-nodes-2) (trees : List Tree) → HoldTrees c.args.
     → IsPrepared c.args.unit.names trees c.in_ok-prepared.prepared.expansion c.in_ok-prepared.prepared.tops.items
 is_prepared c trees held =
     let there : HoldTrees c.args.unit.names c.as_slice-2.result.now c.as_slice-3.result.now trees = rw (c.as_slice-2.ensures.value, c.as_slice-3.ensures.value) held in
-    c.in_ok-prepared.ensures trees c.requires.whole.names_begin.0 there c.requires.whole.names_begin.1 c.requires.whole.names_distinct
+    c.in_ok-prepared.ensures.prepared trees c.requires.whole.names_begin.0 there c.requires.whole.names_begin.1 c.requires.whole.names_distinct
 
 outcome : (c : After-drop-nodes-2) (trees : List Tree) → HoldTrees c.args.unit.names c.args.unit.nodes.items c.args.unit.forms.items trees
     → IsOutcome trees c.expand_prepared.result
-outcome c trees held = c.expand_prepared.ensures.outcome c.args.unit.names trees (is_prepared c trees held)
+outcome c trees held =
+    c.expand_prepared.ensures.outcome c.args.unit.names trees (record { text = c.args.unit; whole = c.requires.whole; held = held; names_are = refl }) (is_prepared c trees held)
 
 pub returns-clause-core : goal.returns-clause-core
 returns-clause-core c trees held = outcome_core trees c.expand_prepared.result (outcome c trees held)

@@ -6,9 +6,11 @@ pub returns-then-branch : goal.returns-then-branch
 returns-then-branch c =
     let g = grown_same c.args.expansion.shared in
     record {
-      sound = c.in_ok-is_right.ensures.sound c.if-branch.true;
-      room = c.in_ok-is_right.ensures.room c.if-branch.true;
+      size = rw c.as_slice.ensures.value at c.in_ok-size.ensures;
+      room = c.in_ok-is_right.ensures c.if-branch.true;
       grown = record { names = g.names; strings = g.strings; pairs = g.pairs };
+      strings = refl;
+      pairs = refl;
       globals = refl;
       ops = refl;
       forms = refl;

@@ -9,7 +9,7 @@ use Rattle.t_rows.proofs.PartLemmas.{zip_parts}
 use Rattle.t_rows.proofs.nodes.plain_parts.Goals as goal
 
 pub parts-init : goal.parts-init
-parts-init c names ds h = rw c.new-parts.ensures.items (none_collected (Held names c.args.forms.now) (IsPart names c.args.forms.now) plain ds h)
+parts-init c names ds h = rw c.in_ok-parts.ensures.items (none_collected (Held names c.args.forms.now) (IsPart names c.args.forms.now) plain ds h)
 
 pub parts-preserved : goal.parts-preserved
 parts-preserved c names ds h =

@@ -1,8 +1,8 @@
-use Rattle.t_rows.proofs.TemplateLemmas.{ended_list}
+use Rattle.t_rows.proofs.Growth.{extends_same}
+use Rattle.t_rows.proofs.TemplateLemmas.{ended_list, rest_items}
 use Rattle.t_rows.proofs.templates.end.Goals as goal
 
-pub returns-in_ok-lists-in-None-clause-put : goal.returns-in_ok-lists-in-None-clause-put
-returns-in_ok-lists-in-None-clause-put c names ds st h open_ =
-    let none = rw c.in-None.is at h in
-    ended_list names c.args.forms.now c.no_items.new.forms c.args.lists.now.items c.in_ok-lists-in-None.field-0 c.args.lists.now.outer.items ds st c.in_ok-lists-in-None.ensures.grown open_
-    (rw none (c.in_ok-lists-in-None.ensures.made names))
+pub returns : goal.returns
+returns c names cells ds st none h open_ =
+    ended_list names cells cells c.args.lists.now.items c.unwrap_or-lists.result c.args.lists.now.outer.items ds st extends_same open_
+    (rw c.unwrap_or-lists.ensures (rest_items names cells c.args.nil c.args.rest ds none h))

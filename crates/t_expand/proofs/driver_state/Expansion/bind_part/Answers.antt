@@ -1,11 +1,25 @@
 use Rattle.std.proofs.Common.{◌∙◌, sym, ap, subst}
 use Rattle.t_expand.specs.Driving.{Inside}
+use Rattle.t_expand.specs.Tallies.{fresh_done}
+use Rattle.t_expand.proofs.TallyLemmas.{takes_none, takes_again}
 use Rattle.t_expand.proofs.StepLemmas.{inside_bound}
 use Rattle.t_expand.proofs.driver_state.Expansion.bind_part.Goals as goal
 
-pub returns-in-AsBefore-clause-inside : goal.returns-in-AsBefore-clause-inside
-returns-in-AsBefore-clause-inside c at around last bound s i b =
+pub returns-then-frame-eq0-clause-inside : goal.returns-then-frame-eq0-clause-inside
+returns-then-frame-eq0-clause-inside c at around last bound s i b =
     subst (λ l. Inside c.args.self.now.shared.names c.args.self.now.scope at around l c.args.frame.now.bound) (sym (rw c.in-AsBefore.is at b)) i
+
+pub returns-then-binds_again-clause-inside : goal.returns-then-binds_again-clause-inside
+returns-then-binds_again-clause-inside c at around last bound s i b =
+    subst (λ l. Inside c.args.self.now.shared.names c.args.self.now.scope at around l c.args.frame.now.bound) (sym (rw c.in-AsBefore.is at b)) i
+
+pub returns-then-frame-eq0-clause-takes : goal.returns-then-frame-eq0-clause-takes
+returns-then-frame-eq0-clause-takes c =
+    takes_none c.args.frame.now.shape (fresh_done c.args.frame.now.done.items) c.args.frame.now.bound c.args.self.now.next (c.if-frame-eq0.true)
+
+pub returns-then-binds_again-clause-takes : goal.returns-then-binds_again-clause-takes
+returns-then-binds_again-clause-takes c =
+    takes_again c.args.frame.now.shape (fresh_done c.args.frame.now.done.items) c.args.frame.now.bound c.args.self.now.next (sym c.binds_again.ensures ∙ c.if-binds_again.true)
 
 pub returns-in_ok-bind_all-in-Names-clause-inside : goal.returns-in_ok-bind_all-in-Names-clause-inside
 returns-in_ok-bind_all-in-Names-clause-inside c at around last bound s i b =

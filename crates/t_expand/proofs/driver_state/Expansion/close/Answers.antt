@@ -4,11 +4,13 @@ use Rattle.t_core.specs.Nodes.{parts_of}
 use Rattle.t_forms.specs.Held.{vars_of}
 use Rattle.t_rows.specs.Given.{IsShape}
 use Rattle.t_expand.specs.Building.{part_of}
-use Rattle.t_expand.specs.Meaning.{Fits}
+use Rattle.expansion.specs.Meaning.{Fits}
 use Rattle.t_expand.proofs.QuotedLemmas.{AddsConstants_refl}
 use Rattle.t_forms.proofs.Keeping.{extends_same}
 use Rattle.t_expand.proofs.NodeLemmas.{fits_shape, fits_constant}
 use Rattle.t_expand.proofs.StepLemmas.{SameBut-Grows, closes, placed, same_around}
+use Rattle.t_expand.proofs.TallyLemmas.{closes_constant, closes_built}
+use Rattle.t_expand.specs.Building.{IsBuilt}
 use Rattle.t_expand.proofs.driver_state.Expansion.close.Goals as goal
 
 pub returns-then-is_some-clause-back : goal.returns-then-is_some-clause-back
@@ -78,3 +80,19 @@ returns-in_ok-place-in_default-clause-back c root waiting u =
       λ top i. fits_shape c.args.self.now.shared.names c.args.self.now.forms c.args.self.now.shared (vars_of top.at) c.args.frame.tail c.args.frame.shape top.shape c.in_ok-core-in_default.core
           i.shape built.shaped,
     ))
+
+pub returns-then-is_some-clause-tallied : goal.returns-then-is_some-clause-tallied
+returns-then-is_some-clause-tallied c before waiting t = λ first. let h : false ≡ true = ap is_some (sym first) ∙ sym c.is_some.ensures ∙ c.if-is_some.true in absurd (cc)
+
+pub returns-in_ok-place-in-Constant-clause-tallied : goal.returns-in_ok-place-in-Constant-clause-tallied
+returns-in_ok-place-in-Constant-clause-tallied c before waiting t =
+    let more = c.in_ok-place-in-Constant.ensures in
+    let made = c.in_ok-core-in-Constant.ensures in
+    closes_constant before c.args.self.now _ waiting c.args.frame c.in_ok-constant-in-Constant.constant c.in_ok-core-in-Constant.core c.in_ok-place-in-Constant.place more.nodes more.place refl refl
+    made.same (sym c.as_slice.ensures.value ∙ made.none) c.in_ok-constant-in-Constant.ensures.named t
+
+pub returns-in_ok-place-in_default-clause-tallied : goal.returns-in_ok-place-in_default-clause-tallied
+returns-in_ok-place-in_default-clause-tallied c before waiting t =
+    let more = c.in_ok-place-in_default.ensures in
+    closes_built before c.args.self.now _ waiting c.args.frame c.in_ok-core-in_default.core c.in_ok-place-in_default.place more.nodes more.place refl refl refl
+    (subst (λ l. IsBuilt c.args.frame.shape c.args.frame.tail l c.in_ok-core-in_default.core) c.as_slice-in_default.ensures.value c.in_ok-core-in_default.ensures) t

@@ -1,10 +1,12 @@
 use Rattle.std.proofs.Common.{[], ◌∷◌, Contains, refl, sym, subst, ◌∙◌}
 use Rattle.t_expand.specs.Marks.{Marks}
-use Rattle.t_expand.specs.Refusals.{RefusedDefinition, twice_defined}
-use Rattle.t_expand.specs.Units.{defining, defined_name as name_of}
+use Rattle.expansion.specs.Refusals.{RefusedDefinition, twice_defined}
+use Rattle.expansion.specs.Units.{defining, defined_name as name_of}
 use Rattle.t_expand.proofs.FirstLemmas.{first_then}
 use Rattle.t_expand.proofs.KeepingLemmas.{keeps_trans, ready_kept}
-use Rattle.t_expand.proofs.TopLemmas.{definition_kept, names_last, finished_means}
+use Rattle.t_expand.proofs.TopLemmas.{definition_kept, finished_means}
+use Rattle.expansion.proofs.Places.{names_last}
+use Rattle.t_expand.proofs.UnitTallies.{tallied_same, tallied_more}
 use Rattle.t_expand.proofs.driver_state.Expansion.expand_defining.Goals as goal
 
 pub returns-clause-kept : goal.returns-clause-kept
@@ -17,7 +19,7 @@ returns-clause-kept c d defined ready of =
       forms = k.forms;
       scope = k.scope;
       shared = record { names = k.shared.names; strings = k.shared.strings; pairs = k.shared.pairs };
-      globals = c.settle.ensures ∙ k.globals;
+      globals = c.settle.ensures.names ∙ k.globals;
       ops = k.ops;
     }
 
@@ -46,3 +48,10 @@ returns-clause-meant c d defined ready of none later grown =
     finished_means defined later c.finished.result c.in_ok-kind.kind c.in_ok-rooted.rooted (defining d) c.finished.ensures.kind c.finished.ensures.root
     c.finished.ensures.nodes c.finished.ensures.spans c.in_ok-rooted.ensures.lengths
     (c.in_ok-kind.ensures c.expand_value.new.self.forms d defined ready-3 of-3 none, c.in_ok-rooted.ensures.meant d defined ready-2 of-2 none later (record { names = grown.names; strings = grown.strings; pairs = grown.pairs }))
+
+pub returns-clause-tallied : goal.returns-clause-tallied
+returns-clause-tallied c forms tallied none =
+    let twice = c.in_ok-look_for_twice.ensures in
+    let before = tallied (twice.first (c.in_ok-rooted.ensures.first none)) in
+    tallied_more forms c.finished.result.form c.in_ok-rooted.rooted c.expand_value.new.self _ c.finished.ensures.nodes c.finished.ensures.root refl refl refl before.trees
+    (c.in_ok-rooted.ensures.tallied forms (λ n. tallied_same forms c.args.self.now c.look_for_twice.new.self twice.next twice.shared (tallied (twice.first n))) none)

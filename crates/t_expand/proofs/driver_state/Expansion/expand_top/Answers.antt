@@ -3,6 +3,7 @@ use Rattle.t_rows.specs.Rows.{refusal}
 use Rattle.t_rows.specs.declared.refusal.SyntaxKind.TheVariants.{BadForm}
 use Rattle.t_expand.proofs.FirstLemmas.{none_of}
 use Rattle.t_expand.proofs.TopLemmas.{is_defining_top, is_broken_top, is_expression_top}
+use Rattle.t_expand.proofs.UnitTallies.{tallied_more}
 use Rattle.t_expand.proofs.driver_state.Expansion.expand_top.Goals as goal
 
 pub returns-in-Defining-clause-kept : goal.returns-in-Defining-clause-kept
@@ -32,3 +33,9 @@ pub returns-in_ok-rooted-in-Expression-clause-refused : goal.returns-in_ok-roote
 returns-in_ok-rooted-in-Expression-clause-refused c before t defined ready is marks =
     let x = is_expression_top c.args.self.now.shared.names c.args.self.now.forms c.args.top.now c.in-Expression.key t c.in-Expression.is is in
     rw x.is (c.in_ok-rooted-in-Expression.ensures.refused x.form defined ready x.held)
+
+pub returns-in_ok-rooted-in-Expression-clause-tallied : goal.returns-in_ok-rooted-in-Expression-clause-tallied
+returns-in_ok-rooted-in-Expression-clause-tallied c forms tallied none =
+    let before = tallied (c.in_ok-rooted-in-Expression.ensures.first none) in
+    tallied_more forms c.finished.result.form c.in_ok-rooted-in-Expression.rooted c.expand_root.new.self _ c.finished.ensures.nodes c.finished.ensures.root refl refl refl
+    before.trees (c.in_ok-rooted-in-Expression.ensures.tallied forms tallied none)

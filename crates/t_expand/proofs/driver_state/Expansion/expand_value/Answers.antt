@@ -1,8 +1,8 @@
 use Rattle.std.proofs.Common.{Contains}
 use Rattle.std.proofs.lemmas.Result.{IfOk-weaker, on_ok_weaker}
 use Rattle.t_rows.specs.Rows.{twice}
-use Rattle.t_expand.specs.Meaning.{top_scope}
-use Rattle.t_expand.specs.Refusals.{Refused, RefusedDefinition}
+use Rattle.expansion.specs.Meaning.{top_scope}
+use Rattle.expansion.specs.Refusals.{Refused, RefusedDefinition}
 use Rattle.t_expand.specs.Rooted.{nodes_of}
 use Rattle.t_expand.proofs.FirstLemmas.{first_right}
 use Rattle.t_expand.proofs.ValueLemmas.{define_value, lset_value, operation_value, operation_none, none_means}

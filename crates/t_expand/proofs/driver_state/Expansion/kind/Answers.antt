@@ -1,7 +1,7 @@
 use Rattle.std.proofs.Common.{sym, ◌∙◌}
 use Rattle.t_forms.specs.Held.{vars_of}
-use Rattle.t_expand.specs.Meaning.{top_scope}
-use Rattle.t_expand.specs.Units.{defined_name as name_of}
+use Rattle.expansion.specs.Meaning.{top_scope}
+use Rattle.expansion.specs.Units.{defined_name as name_of}
 use Rattle.t_expand.proofs.KindLemmas.{is_kind}
 use Rattle.t_expand.proofs.driver_state.Expansion.kind.Goals as goal
 

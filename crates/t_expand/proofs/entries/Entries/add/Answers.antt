@@ -1,6 +1,6 @@
 use Rattle.std.proofs.Common.{◌≡◌, Some, None, slice_get, refl, sym, ◌∙◌}
 use Rattle.std.proofs.lemmas.Result.{on_ok_weaker}
-use Rattle.t_expand.specs.Units.{defined_name as name_of}
+use Rattle.expansion.specs.Units.{defined_name as name_of}
 use Rattle.t_expand.proofs.EntryLemmas.{written_name, entry_known, entry_added}
 use Rattle.t_expand.proofs.entries.Entries.add.Goals as goal
 

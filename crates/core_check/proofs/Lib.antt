@@ -1,5 +1,0 @@
-pub mod Counts
-pub mod Marks
-pub mod PairSizes
-pub mod Trees
-pub mod Wholes

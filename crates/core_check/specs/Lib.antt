@@ -1,4 +1,0 @@
-pub mod Listed
-pub mod Once
-pub mod Sizes
-pub mod Sound

@@ -1,4 +1,0 @@
-use Rattle.t_expand.proofs.laws.core_is_whole.Goals as goal
-
-pub returns : goal.returns
-returns c trees unit spans core = core.whole
