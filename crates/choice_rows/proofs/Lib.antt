@@ -1,2 +1,3 @@
 pub mod CaseLemmas
 pub mod CondLemmas
+pub mod OrLemmas

@@ -45,7 +45,7 @@ pub fn and_row(forms: &mut Forms, span: Span, items: u32) -> Result<Row, Memory>
     }
 }
 
-/// `(or)`, `(or a)`, `(or a b ..)`
+/// `(or)`, `(or a)`, `(or a b ..)`. The node of the last one is had at once by `or_node`.
 pub fn or_row(forms: &mut Forms, span: Span, items: u32) -> Result<Row, Memory>
     ensures grown { OnOk result (Grows forms.old forms.new) }
     ensures row { (names : List (List ℕ)) (vars : List Var) (ds : List Datum) → AreItems names forms.old items ds → IfOk result (λ r. IsRow names forms.new vars r (or_row span ds)) }

@@ -142,18 +142,20 @@ fn largest_form(sizes: &[u64], forms: &[Form]) -> Option<u64>
     Some(most)
 }
 
-/// The count of the largest form, and 0 without forms. None, where all counts, and 8 more for each form, may be together more than
-/// 2^31. The only error is the want of memory.
-pub fn largest(
-    alloc: Global,
-    pairs: &[(Const, Const)],
-    forms: &[Form],
-) -> Result<Option<u64>, Memory>
+/// The count of the largest form, and 0 without forms. The only error is the want of memory. Where a quoted pair counts more than 2^31,
+/// or all counts, and 8 more for each form, are together more than 2^31, the answer is want of memory too.
+pub fn largest(alloc: Global, pairs: &[(Const, Const)], forms: &[Form]) -> Result<u32, Memory>
     requires lower { HasLowerParts pairs.now }
-    ensures { IfOk result (λ size. IfSome size (IsLargest pairs.now forms.now)) }
+    ensures { IfOk result (λ n. IsLargest pairs.now forms.now n) }
 {
-    match sizes_of(alloc, pairs)? {
-        Some(sizes) => Ok(largest_form(sizes.as_slice(), forms)),
-        None => Ok(None),
+    let Some(sizes) = sizes_of(alloc, pairs)? else {
+        return Err(Memory);
+    };
+    let Some(most) = largest_form(sizes.as_slice(), forms) else {
+        return Err(Memory);
+    };
+    match u32::try_from(most) {
+        Ok(most) => Ok(most),
+        Err(_) => Err(Memory),
     }
 }

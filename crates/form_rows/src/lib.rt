@@ -8,4 +8,4 @@ mod set;
 mod table;
 
 pub use crate::definitions::{Definition, definition_of};
-pub use crate::table::row;
+pub use crate::table::{row, row_or_next};

@@ -7,6 +7,7 @@ ghost use Rattle.t_forms.specs.Held.{Held, IsScope, Extends, vars_of};
 ghost use Rattle.t_rows.specs.Given.{IsRow};
 ghost use Rattle.t_rows.specs.Lists.{Grows, AreItems};
 ghost use Rattle.t_rows.specs.Rows.{name_row, word_row, items_row, row};
+ghost use Rattle.t_rows.specs.Given.{IsRowOrNext};
 ghost use Rattle.form_rows.specs.Meant.{MeansAs};
 ghost use Rattle.form_rows.specs.Sorts.{IsSort, sort_of};
 
@@ -15,7 +16,7 @@ use crate::definitions::inner_definition;
 use crate::object::object_row;
 use crate::set::set_row;
 use binding_rows::{do_row, iterate_row, labels_row, let_row, let_star_row, locative_row};
-use choice_rows::{and_row, case_row, cond_row, or_row};
+use choice_rows::{and_row, case_row, cond_row, or_node, or_row};
 use t_base::{Memory, Names, Prim, Span};
 use t_forms::{Form, Forms, LocalName, Meant, Scope};
 use t_objects::Word;
@@ -171,4 +172,17 @@ pub fn row(forms: &mut Forms, names: &Names, scope: &Scope, key: u32) -> Result<
 {
     let row = row_of(forms, names, scope, key)?;
     Ok(row)
+}
+
+/// The row of the form at a place, in a scope, or the row of a form with the same span for which it stands. For an OR this spares the cells of
+/// the LET between. Cells are only added. The only error is the want of memory, after which nothing is said of the cells.
+pub fn row_or_next(forms: &mut Forms, names: &Names, scope: &Scope, key: u32) -> Result<Row, Memory>
+    ensures grown { OnOk result (Extends forms.old forms.new) }
+    ensures row { (d : Datum) (around : SpecScope) → AllPairs (λ a b. a ≢ b) names.now → Held names.now forms.old key d → IsScope names.now scope.now around → IfOk result (IsRowOrNext names.now forms.new (vars_of scope.now) around d) }
+{
+    let found = or_node(forms, key)?;
+    match found {
+        Some(next) => Ok(next),
+        None => row(forms, names, scope, key),
+    }
 }

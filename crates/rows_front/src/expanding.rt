@@ -3,7 +3,7 @@
 use std::alloc::Global;
 use std::process::Abort;
 use std::test::Fail;
-use t_base::{Const, Memory, Name, OpInfo, Prim, Span, Var};
+use t_base::{Const, GlobalKind, Memory, Name, OpInfo, Prim, Span, Var};
 use t_core::{Core, Form, FormKind, UnitCore};
 use t_expand::{Spans, expand, expand_spans};
 use t_objects::{OpTable, resolve_ops};
@@ -163,4 +163,18 @@ fn an_operation_with_spans(rt: HostRuntime) -> Result<(), Fail> {
     let nodes = b"0-35:[ lambda x 25-34:[ + 25-34:[ + 28-29:x 30-31:1 ] 32-33:2 ] ] ";
     assert_eq!(rt; spans.as_slice().len(), 6);
     check_unit(&rt, alloc, &table, &core, spans.as_slice(), nodes)
+}
+
+/// Whether a DEFINE is of a LAMBDA is told by its core: a BLOCK of one LAMBDA is that LAMBDA.
+#[test]
+fn a_block_of_a_lambda_is_a_procedure(rt: HostRuntime) -> Result<(), Fail> {
+    let alloc = rt.alloc();
+    let unit = read_unit(alloc, b"(define f (block (lambda (x) x)))")?;
+    let table = resolve_ops(alloc, &unit)?;
+    let core = expand(alloc, unit, &table)?;
+    let [global] = core.shared.globals.as_slice() else {
+        return Err(Fail::from("not one global"));
+    };
+    assert_eq!(rt; global.kind, GlobalKind::Proc);
+    Ok(())
 }

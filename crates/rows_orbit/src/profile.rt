@@ -189,6 +189,17 @@ fn a_sum_of_three(rt: HostRuntime) -> Result<(), Fail> {
     Ok(())
 }
 
+/// A text of a HERALD alone has no forms, and its value is the empty list.
+#[test]
+fn a_herald_alone(rt: HostRuntime) -> Result<(), Fail> {
+    let alloc = rt.alloc();
+    let mut folder = folder_of(alloc, "a.t", b"(herald a)", &[])?;
+    let seen = done(b"value ()\n");
+    check_over(&rt, alloc, &GO, &mut folder, &mut sink(alloc)?, seen)?;
+    assert_eq!(rt; has_image(alloc, &mut folder), true);
+    Ok(())
+}
+
 /// How much room `out` has, and what it holds when its room is used up.
 static ROOMS: [(usize, &[u8]); 3] = [(0, b""), (7, b"nodes 5"), (15, b"nodes 5 weight ")];
 

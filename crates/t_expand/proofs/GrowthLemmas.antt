@@ -18,10 +18,9 @@ use Rattle.expansion.specs.Meaning.{Fits, Nodes, Means, as_form, as_node, AllMea
 use Rattle.t_expand.specs.Quoting.{AddsConstants}
 use Rattle.expansion.specs.Lists.{Adds}
 use Rattle.t_expand.specs.Expanding.{Grows}
-use Rattle.t_expand.specs.Driving.{AreLeft, Open, IsOpen, Stacked, Root}
+use Rattle.t_expand.specs.Driving.{Open, IsOpen, WaitsFor, Stacked, Root}
+use Rattle.core_frames.specs.Frames.{Frame}
 use Rattle.t_expand.specs.declared.driver_state.Expansion.{Expansion}
-use Rattle.t_expand.specs.declared.driver.Frame.{Frame}
-use Rattle.t_expand.specs.declared.driver.Waiting.{Waiting}
 use Rattle.t_expand.proofs.QuotedLemmas.{AddsConstants_refl, AddsConstants_trans, IsQuoted-Adds}
 use Rattle.expansion.proofs.Added.{Adds_refl, Adds_trans, slice_get-Adds}
 
@@ -100,28 +99,42 @@ Grows_trans a b c g h = record {
   first = λ e. g.first (h.first e);
 }
 
-left_more : (names others : List (List ℕ)) (cells larger : List Cell) (parts : List CodePart) (count : ℕ) (last : List Name) (after : List Part) → others ≡ names → Extends cells larger
-    → AreLeft names cells parts count last after → AreLeft others larger parts count last after
-left_more names others cells larger parts count last after e x l = record {
-  past = l.past;
-  rest = l.rest;
-  split = l.split;
-  counted = l.counted;
-  are = subst (λ n. AreParts n larger last l.rest after) (sym e) (AreParts-Extends names cells larger last l.rest after x l.are);
-}
+parts_more : (names others : List (List ℕ)) (cells larger : List Cell) (last : List Name) (left : List CodePart) (after : List Part) → others ≡ names → Extends cells larger
+    → AreParts names cells last left after → AreParts others larger last left after
+parts_more names others cells larger last left after e x l = subst (λ n. AreParts n larger last left after) (sym e) (AreParts-Extends names cells larger last left after x l)
+
+-- the parts that are left stay so
+pub AreParts-Grows : (e g : Expansion) → Grows e g → (last : List Name) (left : List CodePart) (after : List Part) → AreParts e.shared.names e.forms last left after
+    → AreParts g.shared.names g.forms last left after
+AreParts-Grows e g w last left after l = parts_more e.shared.names g.shared.names e.forms g.forms last left after w.shared.names w.cells l
 
 pub IsOpen-Grows : (e g : Expansion) → Grows e g → (f : Frame) (o : Open) → IsOpen e f o → IsOpen g f o
 IsOpen-Grows e g w f o i = record {
   scope = subst (λ n. IsScope n o.at o.around) (sym w.shared.names) i.scope;
   row_is = i.row_is;
   span = i.span;
-  shape = subst (λ n. IsShape n g.forms (vars_of o.at) f.shape o.shape) (sym w.shared.names) (IsShape-Extends e.shared.names e.forms g.forms (vars_of o.at) f.shape o.shape w.cells i.shape);
-  left = left_more e.shared.names g.shared.names e.forms g.forms f.parts.items _ o.last o.after w.shared.names w.cells i.left;
+  shape = subst (λ n. IsShape n g.forms (vars_of o.at) f.state.shape o.shape) (sym w.shared.names) (IsShape-Extends e.shared.names e.forms g.forms (vars_of o.at) f.state.shape o.shape w.cells i.shape);
   refused = λ h. i.refused (w.first h);
   made = λ h. AllMean-Adds e.shared g.shared e.nodes g.nodes w.shared w.nodes w.spans _ o.around o.before _ (i.made (w.first h));
 }
 
-pub Stacked-Grows : (e g : Expansion) → Grows e g → (root : Root) (waiting : List Waiting) (inner : Open) (tail : Bool) (os : List Open) → Stacked e root waiting inner tail os → Stacked g root waiting inner tail os
-Stacked-Grows e g w root waiting inner tail [] h = h
-Stacked-Grows e g w root waiting inner tail (o ∷ os) h =
-    (h.0, h.1, h.2, IsOpen-Grows e g w (h.1).frame o h.3, h.4, Stacked-Grows e g w root h.0 o (h.1).frame.tail os h.5)
+pub WaitsFor-Grows : (e g : Expansion) → Grows e g → (w : Frame) (o inner : Open) (tail : Bool) → WaitsFor e w o inner tail → WaitsFor g w o inner tail
+WaitsFor-Grows e g grows w o inner tail h = record {
+  now = h.now;
+  rest = h.rest;
+  after = h.after;
+  left = AreParts-Grows e g grows h.now.binds w.left h.rest h.left;
+  around = h.around;
+  vars = h.vars;
+  count = h.count;
+  outer = h.outer;
+  same = h.same;
+  tail_is = h.tail_is;
+}
+
+pub Stacked-Grows : (e g : Expansion) → Grows e g → (root : Root) (waiting : List Frame) (inner : Open) (tail : Bool) (os : List Open) → Stacked e root waiting inner tail os → Stacked g root waiting inner tail os
+Stacked-Grows e g grows root [] inner tail [] h = h
+Stacked-Grows e g grows root [] inner tail (o ∷ os) h = absurd h
+Stacked-Grows e g grows root (w ∷ waiting) inner tail [] h = absurd h
+Stacked-Grows e g grows root (w ∷ waiting) inner tail (o ∷ os) h =
+    (IsOpen-Grows e g grows w o h.0, WaitsFor-Grows e g grows w o inner tail h.1, Stacked-Grows e g grows root waiting o w.state.tail os h.2)

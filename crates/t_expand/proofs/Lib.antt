@@ -1,13 +1,14 @@
 pub mod EntryLemmas
 pub mod FirstLemmas
+pub mod FitLemmas
 pub mod FormLemmas
 pub mod GrowingLemmas
 pub mod GrowthLemmas
 pub mod KeepingLemmas
 pub mod KindLemmas
+pub mod MadeLemmas
 pub mod MarkLemmas
 pub mod NamingLemmas
-pub mod NodeLemmas
 pub mod PlaceLemmas
 pub mod QuotedLemmas
 pub mod RefusalLemmas

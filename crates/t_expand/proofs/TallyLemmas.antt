@@ -1,35 +1,38 @@
 -- Nodes, variables, strings and pairs are each named once while a form is expanded.
-use Rattle.std.proofs.Common.{◌≡◌, ℕ, suc, ◌+◌, ◌<◌, ◌≤◌, Bool, true, false, ◌⊎◌, inl, inr, List, [], ◌∷◌, ◌++◌, map, length, refl, sym, ap, subst, ◌∙◌, arith}
+use Rattle.std.proofs.Common.{◌≡◌, ℕ, suc, ◌+◌, ◌<◌, ◌≤◌, Bool, true, false, ◌⊎◌, inl, inr, List, [], ◌∷◌, ◌++◌, map, length, Some, option_map, slice_get, refl, sym, ap, subst, ◌∙◌, arith}
 use Rattle.std.specs.Prelude.{All, get_or}
 use Rattle.std.specs.List.{flat_map}
 use Rattle.std.proofs.lemmas.Bool.{cases_lt}
 use Rattle.std.proofs.lemmas.List.{append-nil, length-append, map-append}
 use Rattle.std.proofs.lemmas.List.Concat.{flat_map-append}
+use Rattle.std.proofs.lemmas.Option.{same_Some}
 use Rattle.t_base.specs.declared.basics.Var.{Var}
 use Rattle.t_base.specs.declared.shared_parts.Const.{Const}
 use Rattle.t_core.specs.declared.forms.Core.{Core}
 use Rattle.t_core.specs.declared.forms.Core.TheVariants as Node
 use Rattle.t_core.specs.declared.forms.Method.{Method}
 use Rattle.t_core.specs.Nodes.{Part, part, early, block_parts, parts_of, places_of, binders_of}
-use Rattle.t_core.specs.Whole.{pair_in, pair_of}
+use Rattle.t_core.specs.Whole.{pair_of}
+use Rattle.t_rows.specs.declared.rows.Part.{Part as CodePart}
 use Rattle.t_rows.specs.declared.rows.Shape.{Shape}
 use Rattle.t_rows.specs.declared.rows.Shape.TheVariants as shape
 use Rattle.expansion.proofs.WholeLemmas.{places_are}
 use Rattle.expansion.specs.Counting.{times, Once, numbers}
 use Rattle.expansion.specs.Lists.{numbered}
-use Rattle.expansion.specs.Strings.{string_in, string_of}
+use Rattle.expansion.specs.Strings.{string_of}
 use Rattle.expansion.specs.Trees.{Grown}
 use Rattle.expand_laws.proofs.Counting.{times_none, times_append, times_mapped, times_one, times_not_one, times_there, once_both, once_counted, once_numbered}
 use Rattle.expand_laws.proofs.Placing.{before_append}
-use Rattle.t_expand.specs.Building.{variables_of, part_of, IsNode, IsBuilt}
+use Rattle.core_frames.specs.Building.{variables_of, part_of, IsNode, IsBuilt}
 use Rattle.t_expand.specs.Tallies.{AreNamed, places_done, variables_around, fresh_done, binds_again, Takes, roots_of, roots_back, variables_waiting, reserved, Before, IsTallied, Tallied, KeepsTally}
-use Rattle.t_expand.specs.declared.build.Done.{Done}
-use Rattle.t_expand.specs.declared.build.Fresh.{Fresh}
+use Rattle.core_frames.specs.declared.build.Done.{Done}
+use Rattle.core_frames.specs.declared.build.Fresh.{Fresh}
 use Rattle.t_expand.specs.declared.driver_state.Expansion.{Expansion}
-use Rattle.t_expand.specs.declared.driver.Frame.{Frame}
-use Rattle.t_expand.specs.declared.driver.Waiting.{Waiting}
-use Rattle.t_expand.proofs.NamingLemmas.{times_flat_push, named_counted, none_named}
-use Rattle.t_expand.proofs.StepLemmas.{OneMore}
+use Rattle.t_expand.specs.Driving.{IsOpened, NodeMade, IsMade}
+use Rattle.core_frames.specs.declared.frames.NodeState.{NodeState}
+use Rattle.core_frames.proofs.FrameLemmas.{first_frame}
+use Rattle.core_frames.specs.Frames.{Frame, waiting, IsTaken}
+use Rattle.t_expand.proofs.NamingLemmas.{times_flat_push, named_counted}
 
 -- ---- counts
 
@@ -90,7 +93,7 @@ grown_behind nodes c others parts are x =
 
 -- ---- the variables around parts
 
-around_none : (s : Shape) → variables_around s [] ≡ []
+pub around_none : (s : Shape) → variables_around s [] ≡ []
 around_none shape.Labels = refl
 around_none _ = refl
 
@@ -149,128 +152,109 @@ moved before e h roots more held others taken on_nodes on_shared on_next same su
       (subst (λ n. AreNamed (before.strings ++ flat_map string_of n.nodes) (before.pairs ++ flat_map pair_of n.nodes) e.shared) (sym on_nodes) t.named);
 }
 
-roots_push : (k : ℕ) (waiting : List Waiting) (w : Waiting)
-    → times k (flat_map (λ (x : Waiting). places_done x.frame.done.items) (waiting ++ w ∷ []))
-    ≡ times k (flat_map (λ (x : Waiting). places_done x.frame.done.items) waiting) + times k (places_done w.frame.done.items)
-roots_push k waiting w = times_flat_push (λ (x : Waiting). places_done x.frame.done.items) k waiting w
+roots_times : (k : ℕ) (f : Frame) (others : List Frame) → times k (roots_of (f ∷ others)) ≡ times k (places_done f.done) + times k (roots_of others)
+roots_times k f others = times_append k (places_done f.done) (roots_of others)
 
-waiting_push : (k : ℕ) (waiting : List Waiting) (w : Waiting)
-    → times k (numbers (variables_waiting (waiting ++ w ∷ [])))
-    ≡ times k (numbers (variables_waiting waiting)) + times k (numbers (variables_around w.frame.shape (fresh_done w.frame.done.items ++ w.vars ∷ [])))
-waiting_push k waiting w = numbers_push (λ (x : Waiting). variables_around x.frame.shape (fresh_done x.frame.done.items ++ x.vars ∷ [])) k waiting w
+back_times : (k : ℕ) (others : List Frame) (key : ℕ) → times k (roots_back others key) ≡ times k (roots_of others) + times k (key ∷ [])
+back_times k others key = times_append k (roots_of others) (key ∷ [])
 
-roots_times : (k : ℕ) (waiting : List Waiting) (f : Frame)
-    → times k (roots_of waiting f) ≡ times k (flat_map (λ (x : Waiting). places_done x.frame.done.items) waiting) + times k (places_done f.done.items)
-roots_times k waiting f = times_append k (flat_map (λ (x : Waiting). places_done x.frame.done.items) waiting) (places_done f.done.items)
+waiting_times : (k : ℕ) (w : Frame) (others : List Frame) → times k (numbers (variables_waiting (w ∷ others)))
+    ≡ times k (numbers (variables_around w.state.shape (fresh_done w.done ++ w.state.bound ∷ []))) + times k (numbers (variables_waiting others))
+waiting_times k w others = numbers_append k (variables_around w.state.shape (fresh_done w.done ++ w.state.bound ∷ [])) (variables_waiting others)
 
-reserved_times : (k : ℕ) (waiting : List Waiting) (f : Frame)
-    → times k (numbers (reserved waiting f)) ≡ times k (numbers (variables_waiting waiting)) + times k (numbers (variables_around f.shape (fresh_done f.done.items)))
-reserved_times k waiting f = numbers_append k (variables_waiting waiting) (variables_around f.shape (fresh_done f.done.items))
+reserved_times : (k : ℕ) (f : Frame) (others : List Frame)
+    → times k (numbers (reserved (f ∷ others))) ≡ times k (numbers (variables_waiting others)) + times k (numbers (variables_around f.state.shape (fresh_done f.done)))
+reserved_times k f others = numbers_append k (variables_waiting others) (variables_around f.state.shape (fresh_done f.done))
 
 -- a frame with nothing done
-new_roots : (k : ℕ) (f : Frame) → f.done.items ≡ [] → times k (places_done f.done.items) ≡ 0
+new_roots : (k : ℕ) (f : Frame) → f.done ≡ [] → times k (places_done f.done) ≡ 0
 new_roots k f none = ap (λ l. times k (places_done l)) none ∙ times_none k
 
-new_reserved : (k : ℕ) (f : Frame) → f.done.items ≡ [] → times k (numbers (variables_around f.shape (fresh_done f.done.items))) ≡ 0
-new_reserved k f none = ap (λ l. times k (numbers (variables_around f.shape (fresh_done l)))) none ∙ ap (λ l. times k (numbers l)) (around_none f.shape) ∙ times_none k
+new_reserved : (k : ℕ) (f : Frame) → f.done ≡ [] → times k (numbers (variables_around f.state.shape (fresh_done f.done))) ≡ 0
+new_reserved k f none = ap (λ l. times k (numbers (variables_around f.state.shape (fresh_done l)))) none ∙ ap (λ l. times k (numbers l)) (around_none f.state.shape) ∙ times_none k
 
 -- the form's own frame
-pub begins_tallied : (before : Before) (e h : Expansion) (f : Frame) → KeepsTally e h → f.done.items ≡ [] → Tallied before e [] [] → Tallied before h (roots_of [] f) (reserved [] f)
+pub begins_tallied : (before : Before) (e h : Expansion) (f : Frame) → KeepsTally e h → f.done ≡ [] → Tallied before e [] [] → Tallied before h (roots_of (f ∷ [])) (reserved (f ∷ []))
 begins_tallied before e h f keeps none t = λ first.
-    moved before e h [] (roots_of [] f) [] (reserved [] f) 0 keeps.nodes keeps.shared (keeps.next ∙ omega arith) (λ k. roots_times k [] f ∙ omega (arith, new_roots k f none, times_none k))
-    (λ k. omega (arith, reserved_times k [] f, new_reserved k f none, times_none k)) (t (keeps.first first))
+    moved before e h [] (roots_of (f ∷ [])) [] (reserved (f ∷ [])) 0 keeps.nodes keeps.shared (keeps.next ∙ omega arith) (λ k. roots_times k f [] ∙ omega (arith, new_roots k f none, times_none k))
+    (λ k. omega (arith, reserved_times k f [], new_reserved k f none, times_none k)) (t (keeps.first first))
+
+-- a part is taken away
+pub taken_tallied : (before : Before) (e : Expansion) (all after : List Frame) (part : CodePart) → IsTaken all after (Some part) → Tallied before e (roots_of all) (reserved all)
+    → Tallied before e (roots_of after) (reserved after)
+taken_tallied before e [] after part h t = absurd h
+taken_tallied before e (f ∷ others) after part h t = subst (λ l. Tallied before e (roots_of l) (reserved l)) (sym h.2) t
 
 -- a part is entered
-pub enters_tallied : (before : Before) (e g h : Expansion) (waiting more : List Waiting) (frame inner : Frame) (w : Waiting) → g.nodes ≡ e.nodes → g.shared ≡ e.shared → g.first ≡ e.first
-    → Takes e.next g.next frame.shape (fresh_done frame.done.items) w.vars → w.frame ≡ frame → more ≡ waiting ++ w ∷ [] → KeepsTally g h → inner.done.items ≡ []
-    → Tallied before e (roots_of waiting frame) (reserved waiting frame) → Tallied before h (roots_of more inner) (reserved more inner)
-enters_tallied before e g h waiting more frame inner w on_nodes on_shared on_first takes is pushed keeps none t = λ first.
-    moved before e h (roots_of waiting frame) (roots_of more inner) (reserved waiting frame) (reserved more inner) takes.taken (keeps.nodes ∙ on_nodes) (keeps.shared ∙ on_shared)
+pub enters_tallied : (before : Before) (e g h : Expansion) (others : List Frame) (f inner : Frame) (bound : Fresh) (part_tail : Bool) → g.nodes ≡ e.nodes → g.shared ≡ e.shared → g.first ≡ e.first
+    → Takes e.next g.next f.state.shape (fresh_done f.done) bound → KeepsTally g h → inner.done ≡ []
+    → Tallied before e (roots_of (f ∷ others)) (reserved (f ∷ others))
+    → Tallied before h (roots_of (inner ∷ waiting f bound part_tail ∷ others)) (reserved (inner ∷ waiting f bound part_tail ∷ others))
+enters_tallied before e g h others f inner bound part_tail on_nodes on_shared on_first takes keeps none t = λ first.
+    moved before e h (roots_of (f ∷ others)) (roots_of (inner ∷ w ∷ others)) (reserved (f ∷ others)) (reserved (inner ∷ w ∷ others)) takes.taken (keeps.nodes ∙ on_nodes) (keeps.shared ∙ on_shared)
     (keeps.next ∙ takes.next)
+    (λ k. omega (arith, roots_times k inner (w ∷ others), roots_times k w others, roots_times k f others, new_roots k inner none))
     (λ k. omega (
       arith,
-      roots_times k more inner,
-      roots_times k waiting frame,
-      new_roots k inner none,
-      ap (λ l. times k (flat_map (λ (x : Waiting). places_done x.frame.done.items) l)) pushed,
-      roots_push k waiting w,
-      ap (λ f. times k (places_done f.done.items)) is,
-    ))
-    (λ k. omega (
-      arith,
-      reserved_times k more inner,
-      reserved_times k waiting frame,
+      reserved_times k inner (w ∷ others),
+      reserved_times k f others,
       new_reserved k inner none,
-      ap (λ l. times k (numbers (variables_waiting l))) pushed,
-      waiting_push k waiting w,
-      ap (λ f. times k (numbers (variables_around f.shape (fresh_done f.done.items ++ w.vars ∷ [])))) is,
+      waiting_times k w others,
       ap (λ l. times k (numbers l)) takes.around,
-      numbers_append k (variables_around frame.shape (fresh_done frame.done.items)) (numbered e.next takes.taken),
+      numbers_append k (variables_around f.state.shape (fresh_done f.done)) (numbered e.next takes.taken),
     ))
     (t (sym on_first ∙ keeps.first first))
+  where
+    w : Frame
+    w = waiting f bound part_tail
+
+-- the same, by what the calls tell
+pub enters_tallied_opened : (before : Before) (e g h : Expansion) (all waits after : List Frame) (state : NodeState) (done : List Done) (bound : Fresh) (key : ℕ) (part_tail : Bool)
+    → Some state ≡ option_map (λ (f : Frame). f.state) (slice_get all 0) → ((f : Frame) (fs : List Frame) → all ≡ f ∷ fs → done ≡ f.done) → g.nodes ≡ e.nodes → g.shared ≡ e.shared → g.first ≡ e.first
+    → Takes e.next g.next state.shape (fresh_done done) bound → ((f : Frame) (fs : List Frame) → all ≡ f ∷ fs → waits ≡ waiting f bound part_tail ∷ fs)
+    → KeepsTally g h → IsOpened g h waits after key part_tail → Tallied before e (roots_of all) (reserved all) → Tallied before h (roots_of after) (reserved after)
+enters_tallied_opened before e g h all waits after state done bound key part_tail state_is done_is on_nodes on_shared on_first takes waits_now keeps opened t =
+    let x = first_frame all state state_is in
+    let f = x.0 in
+    let others = x.1 in
+    let stack : after ≡ opened.frame ∷ waiting f bound part_tail ∷ others = opened.put ∙ ap (λ l. opened.frame ∷ l) (waits_now f others x.2) in
+    subst (λ l. Tallied before h (roots_of l) (reserved l)) (sym stack)
+    (enters_tallied before e g h others f opened.frame bound part_tail on_nodes on_shared on_first
+    (subst (λ d. Takes e.next g.next f.state.shape (fresh_done d) bound) (done_is f others x.2) (subst (λ y. Takes e.next g.next y.shape (fresh_done done) bound) x.3 takes)) keeps opened.none_done
+    (subst (λ l. Tallied before e (roots_of l) (reserved l)) x.2 t))
 
 -- a part is left
-pub leaves_tallied : (before : Before) (e h : Expansion) (all waiting : List Waiting) (w : Waiting) (f : Frame) (d : Done) → h.nodes ≡ e.nodes → h.shared ≡ e.shared → h.next ≡ e.next → h.first ≡ e.first
-    → all ≡ waiting ++ w ∷ [] → OneMore w.frame f d → d.vars ≡ w.vars
-    → Tallied before e (roots_back all d.at) (variables_waiting all) → Tallied before h (roots_of waiting f) (reserved waiting f)
-leaves_tallied before e h all waiting w f d on_nodes on_shared on_next on_first popped more vars t = λ first.
-    moved before e h (roots_back all d.at) (roots_of waiting f) (variables_waiting all) (reserved waiting f) 0 on_nodes on_shared (on_next ∙ omega arith)
+pub leaves_tallied : (before : Before) (e : Expansion) (w : Frame) (others : List Frame) (d : Done) → d.vars ≡ w.state.bound
+    → Tallied before e (roots_back (w ∷ others) d.at) (variables_waiting (w ∷ others))
+    → Tallied before e (roots_of (record w { done = w.done ++ d ∷ [] } ∷ others)) (reserved (record w { done = w.done ++ d ∷ [] } ∷ others))
+leaves_tallied before e w others d vars t = λ first.
+    moved before e e (roots_back (w ∷ others) d.at) (roots_of (f ∷ others)) (variables_waiting (w ∷ others)) (reserved (f ∷ others)) 0 refl refl (omega arith)
     (λ k. omega (
       arith,
-      roots_times k waiting f,
-      times_append k (flat_map (λ (x : Waiting). places_done x.frame.done.items) all) (d.at ∷ []),
-      ap (λ l. times k (flat_map (λ (x : Waiting). places_done x.frame.done.items) l)) popped,
-      roots_push k waiting w,
-      ap (times k) places,
-      times_append k (places_done w.frame.done.items) (d.at ∷ []),
+      roots_times k f others,
+      back_times k (w ∷ others) d.at,
+      roots_times k w others,
+      ap (times k) (map-append (λ (x : Done). x.at) w.done (d ∷ [])),
+      times_append k (places_done w.done) (d.at ∷ []),
     ))
-    (λ k. omega (arith, reserved_times k waiting f, ap (λ l. times k (numbers (variables_waiting l))) popped, waiting_push k waiting w, ap (λ l. times k (numbers l)) around, times_none k))
-    (t (sym on_first ∙ first))
+    (λ k. omega (arith, reserved_times k f others, waiting_times k w others, ap (λ l. times k (numbers l)) around, times_none k))
+    (t first)
   where
-    places : places_done f.done.items ≡ places_done w.frame.done.items ++ d.at ∷ []
-    places = ap places_done more.done ∙ map-append (λ (x : Done). x.at) w.frame.done.items (d ∷ [])
+    f : Frame
+    f = record w { done = w.done ++ d ∷ [] }
 
-    around : variables_around f.shape (fresh_done f.done.items) ≡ variables_around w.frame.shape (fresh_done w.frame.done.items ++ w.vars ∷ [])
+    around : variables_around w.state.shape (fresh_done (w.done ++ d ∷ [])) ≡ variables_around w.state.shape (fresh_done w.done ++ w.state.bound ∷ [])
     around =
-        ap (λ s. variables_around s (fresh_done f.done.items)) more.shape
-        ∙ ap (λ l. variables_around w.frame.shape l) (ap fresh_done more.done ∙ map-append (λ (x : Done). x.vars) w.frame.done.items (d ∷ []))
-        ∙ ap (λ v. variables_around w.frame.shape (fresh_done w.frame.done.items ++ v ∷ [])) vars
-
-pub ends_tallied : (before : Before) (e : Expansion) (waiting : List Waiting) (key : ℕ) → waiting ≡ [] → Tallied before e (roots_back waiting key) (variables_waiting waiting) → Tallied before e (key ∷ []) []
-ends_tallied before e waiting key none t = subst (λ l. Tallied before e (roots_back l key) (variables_waiting l)) none t
+        ap (λ l. variables_around w.state.shape l) (map-append (λ (x : Done). x.vars) w.done (d ∷ [])) ∙ ap (λ v. variables_around w.state.shape (fresh_done w.done ++ v ∷ [])) vars
 
 -- ---- a node is made
 
-pub closes_tallied : (before : Before) (e h : Expansion) (waiting : List Waiting) (frame : Frame) (c : Core) (place : ℕ) → h.nodes.nodes ≡ e.nodes.nodes ++ c ∷ [] → place ≡ length e.nodes.nodes → h.next ≡ e.next
-    → h.first ≡ e.first → places_of c ≡ places_done frame.done.items → binders_of c ≡ variables_around frame.shape (fresh_done frame.done.items)
-    → (AreNamed (before.strings ++ flat_map string_of e.nodes.nodes) (before.pairs ++ flat_map pair_of e.nodes.nodes) e.shared
-    → AreNamed (before.strings ++ flat_map string_of e.nodes.nodes ++ string_of c) (before.pairs ++ flat_map pair_of e.nodes.nodes ++ pair_of c) h.shared)
-    → Tallied before e (roots_of waiting frame) (reserved waiting frame) → Tallied before h (roots_back waiting place) (variables_waiting waiting)
-closes_tallied before e h waiting frame c place on_nodes at on_next on_first places binders named tallied = λ first.
-    let t = tallied (sym on_first ∙ first) in
-    let nodes = e.nodes.nodes in
-    let held = variables_waiting waiting in
-    record {
-      trees = subst (λ n. Grown 0 n (roots_back waiting place)) (sym on_nodes)
-          (subst (λ k. Grown 0 (nodes ++ c ∷ []) (roots_back waiting k)) (sym at)
-          (grown_behind nodes c (flat_map (λ (x : Waiting). places_done x.frame.done.items) waiting) (places_done frame.done.items) places t.trees));
-      variables = subst (λ n. Once 0 h.next (before.variables ++ numbers (flat_map binders_of n ++ held))) (sym on_nodes)
-          (subst (λ m. Once 0 m (before.variables ++ numbers (flat_map binders_of (nodes ++ c ∷ []) ++ held))) (sym on_next)
-          (once_counted 0 e.next (before.variables ++ numbers (flat_map binders_of nodes ++ reserved waiting frame)) (before.variables ++ numbers (flat_map binders_of (nodes ++ c ∷ []) ++ held))
-          (λ k. omega (
-            arith,
-            bound_times k before.variables (flat_map binders_of nodes) (reserved waiting frame),
-            bound_times k before.variables (flat_map binders_of (nodes ++ c ∷ [])) held,
-            numbers_push binders_of k nodes c,
-            reserved_times k waiting frame,
-            ap (λ l. times k (numbers l)) binders,
-          )) t.variables));
-      named = subst (λ n. AreNamed (before.strings ++ flat_map string_of n) (before.pairs ++ flat_map pair_of n) h.shared) (sym on_nodes)
-          (named_counted _ _ _ _ h.shared (λ k. one_node string_of k before.strings nodes) (λ k. one_node pair_of k before.pairs nodes) (named t.named));
-    }
+pub closes_tallied : (before : Before) (e h : Expansion) (f : Frame) (others : List Frame) (place : ℕ) → IsMade e h f.state f.done place → Tallied before e (roots_of (f ∷ others)) (reserved (f ∷ others))
+    → Tallied before h (roots_back others place) (variables_waiting others)
+closes_tallied before e h f others place made tallied = λ first. by (made.node first) (tallied (sym made.first ∙ first))
   where
-    one_node : (of : Core → List ℕ) (k : ℕ) (front : List ℕ) (nodes : List Core) → times k (front ++ flat_map of (nodes ++ c ∷ [])) ≡ times k (front ++ flat_map of nodes ++ of c)
-    one_node of k front nodes =
+    one_node : (of : Core → List ℕ) (k : ℕ) (front : List ℕ) (nodes : List Core) (c : Core) → times k (front ++ flat_map of (nodes ++ c ∷ [])) ≡ times k (front ++ flat_map of nodes ++ of c)
+    one_node of k front nodes c =
         omega (
           arith,
           times_append k front (flat_map of (nodes ++ c ∷ [])),
@@ -278,6 +262,43 @@ closes_tallied before e h waiting frame c place on_nodes at on_next on_first pla
           times_append k (front ++ flat_map of nodes) (of c),
           times_append k front (flat_map of nodes),
         )
+
+    by : NodeMade e h f.state f.done place → IsTallied before e (roots_of (f ∷ others)) (reserved (f ∷ others)) → IsTallied before h (roots_back others place) (variables_waiting others)
+    by m t =
+        let nodes = e.nodes.nodes in
+        let held = variables_waiting others in
+        let c = m.core in
+        record {
+          trees = subst (λ n. Grown 0 n (roots_back others place)) (sym m.nodes)
+              (subst (λ k. Grown 0 (nodes ++ c ∷ []) (roots_back others k)) (sym m.at)
+              (grown_behind nodes c (roots_of others) (places_done f.done) m.places
+              (grown_counted 0 nodes (roots_of (f ∷ others)) (roots_of others ++ places_done f.done)
+              (λ k. omega (arith, roots_times k f others, times_append k (roots_of others) (places_done f.done))) t.trees)));
+          variables = subst (λ n. Once 0 h.next (before.variables ++ numbers (flat_map binders_of n ++ held))) (sym m.nodes)
+              (subst (λ x. Once 0 x (before.variables ++ numbers (flat_map binders_of (nodes ++ c ∷ []) ++ held))) (sym made.next)
+              (once_counted 0 e.next (before.variables ++ numbers (flat_map binders_of nodes ++ reserved (f ∷ others))) (before.variables ++ numbers (flat_map binders_of (nodes ++ c ∷ []) ++ held))
+              (λ k. omega (
+                arith,
+                bound_times k before.variables (flat_map binders_of nodes) (reserved (f ∷ others)),
+                bound_times k before.variables (flat_map binders_of (nodes ++ c ∷ [])) held,
+                numbers_push binders_of k nodes c,
+                reserved_times k f others,
+                ap (λ l. times k (numbers l)) m.binders,
+              )) t.variables));
+          named = subst (λ n. AreNamed (before.strings ++ flat_map string_of n) (before.pairs ++ flat_map pair_of n) h.shared) (sym m.nodes)
+              (named_counted _ _ _ _ h.shared (λ k. one_node string_of k before.strings nodes c) (λ k. one_node pair_of k before.pairs nodes c)
+              (m.named (before.strings ++ flat_map string_of nodes) (before.pairs ++ flat_map pair_of nodes) t.named));
+        }
+
+-- the same, by what the calls tell
+pub closes_tallied_made : (before : Before) (e h : Expansion) (all after : List Frame) (f : Frame) (others : List Frame) (state : NodeState) (done : List Done) (place : ℕ) → all ≡ f ∷ others
+    → Some state ≡ option_map (λ (g : Frame). g.state) (slice_get all 0) → done ≡ f.done → after ≡ others → IsMade e h state done place → Tallied before e (roots_of all) (reserved all)
+    → Tallied before h (roots_back after place) (variables_waiting after)
+closes_tallied_made before e h all after f others state done place all_is state_is done_is after_is made t =
+    let same : state ≡ f.state = same_Some state f.state (state_is ∙ ap (λ l. option_map (λ (g : Frame). g.state) (slice_get l 0)) all_is) in
+    subst (λ l. Tallied before h (roots_back l place) (variables_waiting l)) (sym after_is)
+    (closes_tallied before e h f others place (subst (λ l. IsMade e h f.state l place) done_is (subst (λ x. IsMade e h x done place) same made))
+    (subst (λ l. Tallied before e (roots_of l) (reserved l)) all_is t))
 
 -- ---- what a node of a shape names and binds
 
@@ -357,35 +378,14 @@ pub built_binders : (s : Shape) (tail : Bool) (done : List Done) (c : Core) → 
 built_binders shape.Labels tail done c built = labels_binders tail done c built
 built_binders _ tail done c built = flat_binders _ tail done c (λ e. cc) built
 
-no_constant : (s : Shape) (tail : Bool) (k : Const) → IsNode s tail (Node.Const k) → ⊥
+pub no_constant : (s : Shape) (tail : Bool) (k : Const) → IsNode s tail (Node.Const k) → ⊥
 no_constant shape.Labels tail k h = h
 no_constant _ tail k h = h
 
-built_strings : (s : Shape) (tail : Bool) (c : Core) → IsNode s tail c → string_of c ≡ []
+pub built_strings : (s : Shape) (tail : Bool) (c : Core) → IsNode s tail c → string_of c ≡ []
 built_strings s tail (Node.Const k) h = absurd (no_constant s tail k h)
 built_strings s tail _ h = refl
 
-built_pairs : (s : Shape) (tail : Bool) (c : Core) → IsNode s tail c → pair_of c ≡ []
+pub built_pairs : (s : Shape) (tail : Bool) (c : Core) → IsNode s tail c → pair_of c ≡ []
 built_pairs s tail (Node.Const k) h = absurd (no_constant s tail k h)
 built_pairs s tail _ h = refl
-
--- a node of parts
-pub closes_built : (before : Before) (e h : Expansion) (waiting : List Waiting) (frame : Frame) (c : Core) (place : ℕ) → h.nodes.nodes ≡ e.nodes.nodes ++ c ∷ [] → place ≡ length e.nodes.nodes → h.next ≡ e.next
-    → h.first ≡ e.first → h.shared ≡ e.shared → IsBuilt frame.shape frame.tail frame.done.items c → Tallied before e (roots_of waiting frame) (reserved waiting frame)
-    → Tallied before h (roots_back waiting place) (variables_waiting waiting)
-closes_built before e h waiting frame c place on_nodes at on_next on_first on_shared built tallied =
-    closes_tallied before e h waiting frame c place on_nodes at on_next on_first (built_places frame.shape frame.tail frame.done.items c built)
-    (built_binders frame.shape frame.tail frame.done.items c built)
-    (λ named. subst (λ s. AreNamed (before.strings ++ flat_map string_of e.nodes.nodes ++ string_of c) (before.pairs ++ flat_map pair_of e.nodes.nodes ++ pair_of c) s) (sym on_shared)
-    (none_named _ _ (string_of c) (pair_of c) e.shared (built_strings frame.shape frame.tail c built.shaped) (built_pairs frame.shape frame.tail c built.shaped) named)) tallied
-
--- a constant
-pub closes_constant : (before : Before) (e h : Expansion) (waiting : List Waiting) (frame : Frame) (k : Const) (c : Core) (place : ℕ) → h.nodes.nodes ≡ e.nodes.nodes ++ c ∷ []
-    → place ≡ length e.nodes.nodes → h.next ≡ e.next → h.first ≡ e.first → c ≡ Node.Const k → frame.done.items ≡ []
-    → ((strings pairs : List ℕ) → AreNamed strings pairs e.shared → AreNamed (strings ++ string_in k) (pairs ++ pair_in k) h.shared)
-    → Tallied before e (roots_of waiting frame) (reserved waiting frame) → Tallied before h (roots_back waiting place) (variables_waiting waiting)
-closes_constant before e h waiting frame k c place on_nodes at on_next on_first is none named tallied =
-    closes_tallied before e h waiting frame c place on_nodes at on_next on_first (ap places_of is ∙ sym (ap places_done none))
-    (ap binders_of is ∙ sym (ap (λ l. variables_around frame.shape (fresh_done l)) none ∙ around_none frame.shape))
-    (λ n. subst (λ d. AreNamed (before.strings ++ flat_map string_of e.nodes.nodes ++ string_of d) (before.pairs ++ flat_map pair_of e.nodes.nodes ++ pair_of d) h.shared) (sym is)
-    (named (before.strings ++ flat_map string_of e.nodes.nodes) (before.pairs ++ flat_map pair_of e.nodes.nodes) n)) tallied

@@ -1,4 +1,3 @@
-pub mod Building
 pub mod Driving
 pub mod Entries
 pub mod Expanding

@@ -1,5 +1,5 @@
 -- How often things are named in what is made so far: each node, string and quoted pair once, and each variable is bound once at most.
-use Rattle.std.specs.Prelude.{◌≡◌, ℕ, ◌+◌, ◌<◌, Bool, true, false, List, [], ◌∷◌, ◌++◌, map, length, All, None}
+use Rattle.std.specs.Prelude.{◌≡◌, ℕ, ◌+◌, ◌<◌, Bool, true, false, List, [], ◌∷◌, ◌++◌, map, length, All, Option, Some, None}
 use Rattle.std.specs.List.{flat_map}
 use Rattle.t_base.specs.declared.basics.Var.{Var}
 use Rattle.t_base.specs.declared.shared_parts.Const.{Const}
@@ -15,19 +15,16 @@ use Rattle.expansion.specs.Counting.{Once, EachOnce, numbers}
 use Rattle.expansion.specs.Lists.{numbered}
 use Rattle.expansion.specs.Strings.{string_in, string_of}
 use Rattle.expansion.specs.Trees.{Grown}
-use Rattle.t_expand.specs.declared.build.Done.{Done}
-use Rattle.t_expand.specs.declared.build.Fresh.{Fresh}
+use Rattle.core_frames.specs.declared.build.Done.{Done}
+use Rattle.core_frames.specs.declared.build.Fresh.{Fresh}
 use Rattle.t_expand.specs.declared.driver_state.Expansion.{Expansion}
-use Rattle.t_expand.specs.declared.driver.Frame.{Frame}
-use Rattle.t_expand.specs.declared.driver.Step.{Step}
-use Rattle.t_expand.specs.declared.driver.Step.TheVariants as step
-use Rattle.t_expand.specs.declared.driver.Waiting.{Waiting}
 use Rattle.t_expand.specs.declared.quoted.Half.{Half}
 use Rattle.t_expand.specs.declared.quoted.Half.TheVariants as half
 use Rattle.t_expand.specs.declared.quoted.Quoting.{Quoting}
 use Rattle.t_expand.specs.declared.quoted.Quoting.TheVariants as quoting
 use Rattle.t_expand.specs.declared.unit_top.Rooted.{Rooted}
-use Rattle.t_expand.specs.Building.{variables_of}
+use Rattle.core_frames.specs.Building.{variables_of}
+use Rattle.core_frames.specs.Frames.{Frame}
 
 -- ---- strings and pairs
 
@@ -87,20 +84,22 @@ pub record Takes (old new : ℕ) (s : Shape) (done : List Fresh) (v : Fresh) : T
   pub next : new ≡ old + taken
   pub around : variables_around s (done ++ v ∷ []) ≡ variables_around s done ++ numbered old taken
 
--- the nodes that no node names yet, of the nodes that wait and of the one under way
-abbrev pub roots_of : List Waiting → Frame → List ℕ
-roots_of waiting f = flat_map (λ w. places_done w.frame.done.items) waiting ++ places_done f.done.items
+-- the nodes that no node names yet, of the nodes under way
+abbrev pub roots_of : List Frame → List ℕ
+roots_of frames = flat_map (λ f. places_done f.done) frames
 
 -- the same where the node at a place is what they wait for
-abbrev pub roots_back : List Waiting → ℕ → List ℕ
-roots_back waiting key = flat_map (λ w. places_done w.frame.done.items) waiting ++ key ∷ []
+abbrev pub roots_back : List Frame → ℕ → List ℕ
+roots_back waiting key = roots_of waiting ++ key ∷ []
 
--- the variables that are bound around parts of them, and by no node yet
-abbrev pub variables_waiting : List Waiting → List Var
-variables_waiting waiting = flat_map (λ w. variables_around w.frame.shape (fresh_done w.frame.done.items ++ w.vars ∷ [])) waiting
+-- the variables that are bound around parts of nodes that wait, and by no node yet
+abbrev pub variables_waiting : List Frame → List Var
+variables_waiting waiting = flat_map (λ w. variables_around w.state.shape (fresh_done w.done ++ w.state.bound ∷ [])) waiting
 
-abbrev pub reserved : List Waiting → Frame → List Var
-reserved waiting f = variables_waiting waiting ++ variables_around f.shape (fresh_done f.done.items)
+-- the same of the innermost node and those that wait
+abbrev pub reserved : List Frame → List Var
+reserved [] = []
+reserved (f ∷ waiting) = variables_waiting waiting ++ variables_around f.state.shape (fresh_done f.done)
 
 -- what the forms before this one bind and name
 pub record Before : Type 0 where
@@ -118,10 +117,10 @@ pub record IsTallied (before : Before) (e : Expansion) (roots : List ℕ) (held 
 abbrev pub Tallied : Before → Expansion → List ℕ → List Var → Type 0
 Tallied before e roots held = e.first ≡ None → IsTallied before e roots held
 
--- what comes next, of a form
-abbrev pub TalliedNext : Before → Expansion → List Waiting → Step → Type 0
-TalliedNext before e waiting (step.On f) = Tallied before e (roots_of waiting f) (reserved waiting f)
-TalliedNext before e waiting (step.End root) = Tallied before e (root ∷ []) []
+-- frames are under way, or the root is at a place
+abbrev pub TalliedNext : Before → Expansion → List Frame → Option ℕ → Type 0
+TalliedNext before e frames None = Tallied before e (roots_of frames) (reserved frames)
+TalliedNext before e frames (Some root) = Tallied before e (root ∷ []) []
 
 -- nothing is counted in between
 pub record KeepsTally (old new : Expansion) : Type 0 where

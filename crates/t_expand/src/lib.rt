@@ -2,7 +2,6 @@
 //! defined in crate `expansion`.
 #![tactic(auto)]
 
-mod build;
 mod driver;
 mod driver_first;
 mod driver_state;

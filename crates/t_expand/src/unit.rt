@@ -7,7 +7,6 @@ ghost use Rattle.t_reader.specs.Unit.{IsWhole as IsWholeText};
 ghost use Rattle.t_prim.specs.SharedParts.{HasLowerParts};
 ghost use Rattle.t_objects.specs.Operations.{IsTableOf};
 ghost use Rattle.t_core.specs.Counts.{bulk_of};
-ghost use Rattle.core_size.specs.Sizes.{IsLargest};
 ghost use Rattle.t_forms.specs.Data.{datum_of};
 ghost use Rattle.t_rows.specs.declared.refusal.SyntaxKind.{SyntaxKind};
 ghost use Rattle.t_rows.specs.declared.refusal.Refusal.{Refusal as SpecRefusal};
@@ -28,7 +27,7 @@ use crate::unit_bytes::{bytes_kept, bytes_read};
 use core_size::largest;
 use std::alloc::Global;
 use t_base::{Memory, Names, Shared};
-use t_core::{Form, UnitCore};
+use t_core::UnitCore;
 use t_forms::{Forms, Scope, load};
 use t_objects::OpTable;
 use t_reader::{Node, Unit};
@@ -98,20 +97,6 @@ fn is_right(unit: &UnitCore, ops: &OpTable, bytes: u64) -> Result<bool, Memory>
     Ok(kept <= bytes && unit.shared.ops.as_slice() == ops.ops.as_slice())
 }
 
-/// The count of the largest form. A unit whose counts are together more than 2^31 is answered as want of memory.
-fn size_of(alloc: Global, shared: &Shared, forms: &[Form]) -> Result<u32, Memory>
-    requires lower { HasLowerParts shared.now.pairs.items }
-    ensures { IfOk result (λ n. IsLargest shared.now.pairs.items forms.now n) }
-{
-    let Some(size) = largest(alloc, shared.pairs.as_slice(), forms)? else {
-        return Err(Memory);
-    };
-    match u32::try_from(size) {
-        Ok(size) => Ok(size),
-        Err(_) => Err(Memory),
-    }
-}
-
 /// The unit of forms that are made.
 fn finished(
     expansion: Expansion,
@@ -124,7 +109,7 @@ fn finished(
 {
     let Expansion { alloc, shared, .. } = expansion;
     let FormList { forms, spans } = list;
-    let size = size_of(alloc, &shared, forms.as_slice())?;
+    let size = largest(alloc, shared.pairs.as_slice(), forms.as_slice())?;
     let shared = Shared { size, ..shared };
     let unit = UnitCore { shared, forms };
     if is_right(&unit, ops, bytes)? {
@@ -163,7 +148,7 @@ fn expand_prepared(
 ///
 /// The unit is whole, as `read_unit` gives it, and `ops` is what `resolve_ops` gives for it. `Ok` is a core of the data, with the spans
 /// of the data that its nodes stand for, a list for each form; it comes only where nothing is refused. `Err(Fault)` is the first refusal.
-/// `Err(Memory)` comes only where memory ran out.
+/// `Err(Memory)` is the want of memory, and would stand for what can't arise on a text.
 pub fn expand_spans(
     alloc: Global,
     unit: Unit,

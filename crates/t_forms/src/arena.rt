@@ -2,6 +2,7 @@
 ghost use Rattle.std.specs.Prelude.{◌≡◌, ◌++◌, ◌∷◌, [], length, slice_get, option_map, OnOk, OnErr, IfOk};
 ghost use Rattle.t_forms.specs.Held.{cell, Extends};
 
+use crate::item_count::ItemCount;
 use std::alloc::Global;
 use std::marker::Model;
 use t_base::{Bytes, Memory, Name, Prim, Span};
@@ -88,7 +89,7 @@ pub enum Form {
     Pair {
         head: u32,
         tail: u32,
-        count: Option<u32>,
+        count: ItemCount,
     },
 }
 

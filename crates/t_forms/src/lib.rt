@@ -5,6 +5,7 @@
 
 mod arena;
 mod builtins;
+mod item_count;
 mod loading;
 mod locals;
 mod making;
@@ -13,5 +14,6 @@ mod scope;
 
 pub use crate::arena::{Cell, Form, Forms, New, Text};
 pub use crate::builtins::builtin_of;
+pub use crate::item_count::ItemCount;
 pub use crate::loading::load;
 pub use crate::scope::{Defined, Local, LocalName, Meant, Scope};

@@ -4,18 +4,21 @@ ghost use Rattle.t_forms.specs.Data.{Datum, Atom, atom, cons};
 ghost use Rattle.t_forms.specs.Held.{Held, Continues, IsAtom, Extends};
 
 use crate::arena::{Form, Forms};
+use crate::item_count::ItemCount;
 use t_base::{Memory, Span};
 
-/// How many items there are with one before them. Where they are past 2^32 - 1 there is no room for them.
-fn one_more(count: Option<u32>) -> Result<Option<u32>, Memory>
+/// How many items there are with one before them. Where they are 2^32 - 1 or more there is no room for them.
+fn one_more(count: Option<u32>) -> Result<ItemCount, Memory>
     ensures { IfOk result (λ more. more ≡ option_map (λ n. n + 1) count) }
 {
     match count {
-        None => Ok(None),
-        Some(count) => match count.checked_add(1) {
-            None => Err(Memory),
-            Some(more) => Ok(Some(more)),
-        },
+        None => Ok(ItemCount::new(None)),
+        Some(count) => {
+            if count >= u32::MAX - 1 {
+                return Err(Memory);
+            }
+            Ok(ItemCount::new(Some(count + 1)))
+        }
     }
 }
 

@@ -47,7 +47,7 @@ fn count_in(form: &Form) -> Option<u32>
     ensures { result ≡ count_form form.now }
 {
     match form {
-        Form::Pair { count, .. } => *count,
+        Form::Pair { count, .. } => count.get(),
         Form::Nil => Some(0),
         _ => None,
     }

@@ -102,20 +102,20 @@ items_held names cells k x s (d ∷ ds) p e h =
       r.7,
     )
 
-pub cons_made : (a : List Cell) (b : List Cell) (names : List (List ℕ)) (s : Span) (k i j n m : ℕ) (d : Datum) (ds : List Datum) → b ≡ a ++ cell s (form.Pair i j (Some m)) ∷ [] → k ≡ length a → n ≡ length ds
-    → m ≡ n + 1 → Held names a i d → AreItems names a j ds → AreItems names b k (d ∷ ds)
+pub cons_made : (a : List Cell) (b : List Cell) (names : List (List ℕ)) (s : Span) (k i j n : ℕ) (m : Option ℕ) (d : Datum) (ds : List Datum) → b ≡ a ++ cell s (form.Pair i j m) ∷ [] → k ≡ length a → n ≡ length ds
+    → m ≡ Some (n + 1) → Held names a i d → AreItems names a j ds → AreItems names b k (d ∷ ds)
 cons_made a b names s k i j n m d ds e l c p h r =
     let below : i < k = rw l (held_within names a i d h) in
     let behind : j < k = rw l (items_within names a j ds r) in
     let g : Grows a b = extends_one _ e in
-    let count : m ≡ length ds + 1 = p ∙ ap (λ x. x + 1) c in
-    (s, i, j, last_at a e l ∙ ap (λ x. Some (cell s (form.Pair i j (Some x)))) count, below, behind, held_grows g names i d h, items_grow g names j ds r)
+    let count : m ≡ Some (length ds + 1) = p ∙ ap (λ x. Some (x + 1)) c in
+    (s, i, j, last_at a e l ∙ ap (λ x. Some (cell s (form.Pair i j x))) count, below, behind, held_grows g names i d h, items_grow g names j ds r)
 
-pub list_made : (a : List Cell) (b : List Cell) (names : List (List ℕ)) (s : Span) (k i j n m : ℕ) (d : Datum) (ds : List Datum) → b ≡ a ++ cell s (form.Pair i j (Some m)) ∷ [] → k ≡ length a → n ≡ length ds
-    → m ≡ n + 1 → Held names a i d → AreItems names a j ds → Held names b k (listed s (d ∷ ds))
+pub list_made : (a : List Cell) (b : List Cell) (names : List (List ℕ)) (s : Span) (k i j n : ℕ) (m : Option ℕ) (d : Datum) (ds : List Datum) → b ≡ a ++ cell s (form.Pair i j m) ∷ [] → k ≡ length a → n ≡ length ds
+    → m ≡ Some (n + 1) → Held names a i d → AreItems names a j ds → Held names b k (listed s (d ∷ ds))
 list_made a b names s k i j n m d ds e l c p h r =
     let below : i < k = rw l (held_within names a i d h) in
     let behind : j < k = rw l (items_within names a j ds r) in
     let g : Grows a b = extends_one _ e in
-    let count : Some m ≡ option_map (λ x. x + 1) (count_of (listed s ds)) = ap (λ x. Some x) (p ∙ ap (λ x. x + 1) c) ∙ ap (λ x. option_map (λ y. y + 1) x) (sym (listed_count s ds)) in
+    let count : m ≡ option_map (λ x. x + 1) (count_of (listed s ds)) = p ∙ ap (λ x. Some (x + 1)) c ∙ ap (λ x. option_map (λ y. y + 1) x) (sym (listed_count s ds)) in
     (i, j, last_at a e l ∙ ap (λ x. Some (cell s (form.Pair i j x))) count, below, behind, held_grows g names i d h, items_list names b j s ds (items_grow g names j ds r))

@@ -1,9 +1,10 @@
 -- What the code's row is to the table's.
-use Rattle.std.specs.Prelude.{◌≡◌, ℕ, List, [], ◌∷◌, slice_get, Some}
+use Rattle.std.specs.Prelude.{◌≡◌, ◌⊎◌, ℕ, List, [], ◌∷◌, slice_get, Some}
 use Rattle.std.specs.Global.{Vec}
 use Rattle.t_base.specs.declared.basics.Var.{Var}
 use Rattle.t_forms.specs.declared.arena.Cell.{Cell}
-use Rattle.t_forms.specs.Data.{Name}
+use Rattle.t_forms.specs.Data.{Datum, Name, span_of}
+use Rattle.t_forms.specs.Names.{Scope}
 use Rattle.t_forms.specs.Held.{Held, AreNames}
 use Rattle.t_rows.specs.declared.refusal.Refusal.{Refusal}
 use Rattle.t_rows.specs.declared.rows.Shape.{Shape as CodeShape}
@@ -13,7 +14,7 @@ use Rattle.t_rows.specs.declared.rows.Binds.TheVariants as binds
 use Rattle.t_rows.specs.declared.rows.Part.{Part as CodePart}
 use Rattle.t_rows.specs.declared.rows.Row.{Row as CodeRow}
 use Rattle.t_rows.specs.declared.rows.Row.TheVariants as coded
-use Rattle.t_rows.specs.Rows.{Shape, constant, local, global, builtin_value, op_value, lambda, if_, block, let_, labels, set_local, set_global, catch_, object, call, primitive, nothing, Part, Row, stands_for, node}
+use Rattle.t_rows.specs.Rows.{Shape, constant, local, global, builtin_value, op_value, lambda, if_, block, let_, labels, set_local, set_global, catch_, object, call, primitive, nothing, Part, Row, stands_for, node, row}
 
 abbrev pub IsShape : List (List ℕ) → List Cell → List Var → CodeShape → Shape → Type 0
 IsShape names cells vars c (constant d) = (k : ℕ) × (c ≡ code.Constant k) × Held names cells k d
@@ -64,3 +65,14 @@ IsRow names cells vars c (stands_for d) = (k : ℕ) × (c ≡ coded.StandsFor k)
 IsRow names cells vars c (node shape refusals parts) =
     (s : CodeShape) × (rs : Vec Refusal) × (ps : Vec CodePart) × (c ≡ coded.Node s rs ps) × IsShape names cells vars s shape × (rs.items ≡ refusals)
     × AreParts names cells [] ps.items parts
+
+-- the form stands for another one with its span, and the code's row is the row of that
+pub record IsRowOfNext (names : List (List ℕ)) (cells : List Cell) (vars : List Var) (around : Scope) (d : Datum) (r : CodeRow) : Type 0 where
+  pub form : Datum
+  pub stands : row around d ≡ stands_for form
+  pub span : span_of form ≡ span_of d
+  pub is : IsRow names cells vars r (row around form)
+
+-- the code's row is the row of the form, or of one that it stands for
+abbrev pub IsRowOrNext : List (List ℕ) → List Cell → List Var → Scope → Datum → CodeRow → Type 0
+IsRowOrNext names cells vars around d r = IsRow names cells vars r (row around d) ⊎ IsRowOfNext names cells vars around d r

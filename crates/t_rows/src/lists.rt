@@ -25,7 +25,7 @@ pub fn items_of(forms: &Forms, key: u32) -> Option<u32>
     match forms.get(key) {
         Some(cell) => match &cell.form {
             Form::Nil => Some(key),
-            Form::Pair { count, .. } => match count {
+            Form::Pair { count, .. } => match count.get() {
                 Some(_) => Some(key),
                 None => None,
             },
@@ -109,8 +109,8 @@ pub fn count_of(forms: &Forms, items: u32) -> Result<u32, Memory>
     match forms.get(items) {
         Some(cell) => match &cell.form {
             Form::Nil => Ok(0),
-            Form::Pair { count, .. } => match count {
-                Some(n) => Ok(*n),
+            Form::Pair { count, .. } => match count.get() {
+                Some(n) => Ok(n),
                 None => Err(Memory),
             },
             _ => Err(Memory),

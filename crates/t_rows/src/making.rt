@@ -6,7 +6,7 @@ ghost use Rattle.t_rows.specs.Lists.{Grows, AreHeld, AreItems};
 
 use crate::lists::{count_of, keys_of, split};
 use t_base::{Memory, Span};
-use t_forms::{Form, Forms};
+use t_forms::{Form, Forms, ItemCount};
 
 /// An atom.
 pub fn made(forms: &mut Forms, span: Span, form: Form) -> Result<u32, Memory>
@@ -33,10 +33,10 @@ pub fn cons(forms: &mut Forms, span: Span, head: u32, tail: u32) -> Result<u32, 
     ensures list { (names : List (List ℕ)) (d : Datum) (ds : List Datum) → Held names forms.old head d → AreItems names forms.old tail ds → IfOk result (λ key. Held names forms.new key (listed span (d ∷ ds))) }
 {
     let behind = count_of(forms, tail)?;
-    if behind == u32::MAX {
+    if behind >= u32::MAX - 1 {
         return Err(Memory);
     }
-    let count = Some(behind + 1);
+    let count = ItemCount::new(Some(behind + 1));
     let key = forms.add(span, Form::Pair { head, tail, count })?;
     Ok(key)
 }

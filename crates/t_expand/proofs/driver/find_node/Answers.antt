@@ -1,9 +1,6 @@
-use Rattle.std.proofs.Common.{subst}
 use Rattle.t_forms.specs.Held.{vars_of}
-use Rattle.t_rows.specs.Rows.{row}
-use Rattle.t_rows.specs.Given.{IsRow}
 use Rattle.t_forms.proofs.Keeping.{extends_same, extends_trans, held_grows}
-use Rattle.t_expand.proofs.FormLemmas.{same_self, form_found}
+use Rattle.t_expand.proofs.FormLemmas.{same_self, form_found_or_next, node_found}
 use Rattle.t_expand.proofs.driver.find_node.Goals as goal
 
 pub rows-init : goal.rows-init
@@ -14,7 +11,7 @@ rows-preserved c = record {
   cells = extends_trans c.rows.invariant.cells c.in_ok-next.ensures.grown;
   stands = λ d around distinct held scope.
       let s = c.rows.invariant.stands d around distinct held scope in
-      form_found c.args.names.now c.row.new.forms (vars_of c.args.scope.now) around d s.0 c.in-StandsFor.next c.in_ok-next.field-0 c.in-StandsFor.is s.2
+      form_found_or_next c.args.names.now c.row_or_next.new.forms (vars_of c.args.scope.now) around d s.0 c.in-StandsFor.next c.in_ok-next.field-0 c.in-StandsFor.is s.2
       (c.in_ok-next.ensures.row s.0 around distinct s.1 scope);
 }
 
@@ -23,10 +20,6 @@ returns-in-Node c = record {
   cells = extends_trans c.rows.invariant.cells c.in_ok-next.ensures.grown;
   finds = λ d around distinct held scope.
       let s = c.rows.invariant.stands d around distinct held scope in
-      record {
-        form = s.0;
-        same = s.2;
-        held = held_grows c.in_ok-next.ensures.grown c.args.names.now c.rows.at s.0 s.1;
-        is = subst (λ r. IsRow c.args.names.now c.row.new.forms (vars_of c.args.scope.now) r (row around s.0)) c.in-Node.is (c.in_ok-next.ensures.row s.0 around distinct s.1 scope);
-      };
+      node_found c.args.names.now c.row_or_next.new.forms c.args.scope.now around d s.0 _ c.in_ok-next.field-0 c.in-Node.is s.2
+      (c.span_of.ensures c.args.names.now s.0 (held_grows c.in_ok-next.ensures.grown c.args.names.now c.rows.at s.0 s.1)) (c.in_ok-next.ensures.row s.0 around distinct s.1 scope);
 }

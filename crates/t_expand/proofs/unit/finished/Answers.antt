@@ -6,7 +6,7 @@ pub returns-then-branch : goal.returns-then-branch
 returns-then-branch c =
     let g = grown_same c.args.expansion.shared in
     record {
-      size = rw c.as_slice.ensures.value at c.in_ok-size.ensures;
+      size = rw (c.as_slice.ensures.value, c.as_slice-2.ensures.value) at c.in_ok-size.ensures;
       room = c.in_ok-is_right.ensures c.if-branch.true;
       grown = record { names = g.names; strings = g.strings; pairs = g.pairs };
       strings = refl;

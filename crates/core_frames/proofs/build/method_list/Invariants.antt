@@ -1,7 +1,7 @@
 use Rattle.std.proofs.Common.{◌≡◌, true, map, take}
 use Rattle.t_core.specs.Nodes.{part}
-use Rattle.t_expand.specs.Building.{part_of}
-use Rattle.t_expand.proofs.build.method_list.Given as goal
+use Rattle.core_frames.specs.Building.{part_of}
+use Rattle.core_frames.proofs.build.method_list.Given as goal
 
 abbrev pub invariant-methods : goal.invariant-methods
 invariant-methods l = record {

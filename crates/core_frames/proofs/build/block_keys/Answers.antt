@@ -1,6 +1,6 @@
 use Rattle.std.proofs.Common.{◌∙◌}
-use Rattle.t_expand.proofs.NodeLemmas.{block_of}
-use Rattle.t_expand.proofs.build.block_keys.Goals as goal
+use Rattle.core_frames.proofs.NodeLemmas.{block_of}
+use Rattle.core_frames.proofs.build.block_keys.Goals as goal
 
 pub returns : goal.returns
 returns c =

@@ -1,12 +1,11 @@
--- Nodes from their parts.
-use Rattle.std.proofs.Common.{◌≡◌, ℕ, zero, suc, ◌+◌, Bool, List, [], ◌∷◌, ◌++◌, map, slice_get, Some, refl, sym, ap, subst, ◌∙◌, arith}
+-- A node fits the shape of its row.
+use Rattle.std.proofs.Common.{◌≡◌, ℕ, Bool, List, slice_get, Some, ap, subst, ◌∙◌}
 use Rattle.t_base.specs.declared.basics.Var.{Var}
 use Rattle.t_base.specs.declared.builtins.Builtin.{Builtin}
 use Rattle.t_base.specs.declared.shared_parts.Const.{Const}
 use Rattle.t_base.specs.declared.shared_parts.Shared.{Shared}
 use Rattle.t_core.specs.declared.forms.Core.{Core}
 use Rattle.t_core.specs.declared.forms.Core.TheVariants as Node
-use Rattle.t_core.specs.Nodes.{Part, part, early, block_parts}
 use Rattle.t_forms.specs.declared.arena.Cell.{Cell}
 use Rattle.t_forms.specs.Data.{Datum}
 use Rattle.t_forms.specs.Held.{Held}
@@ -15,28 +14,7 @@ use Rattle.t_rows.specs.declared.rows.Shape.TheVariants as code
 use Rattle.t_rows.specs.Rows.{Shape, constant, local, global, builtin_value, op_value, lambda, if_, block, let_, labels, set_local, set_global, catch_, object, call, primitive, nothing}
 use Rattle.t_rows.specs.Given.{IsShape}
 use Rattle.expansion.specs.Meaning.{Fits, IsQuoted}
-use Rattle.t_expand.specs.Building.{IsNode}
-use Rattle.expansion.specs.Lists.{numbered}
-
-pub numbered_push : (first n : ℕ) → numbered first (n + 1) ≡ numbered first n ++ record { 0 = first + n } ∷ []
-numbered_push first zero = let e : first + 0 ≡ first = omega arith in rw e refl
-numbered_push first (suc n) =
-    let a : suc n + 1 ≡ suc (n + 1) = omega arith in
-    let b : first + suc n ≡ suc first + n = omega arith in
-    rw a (rw b (ap (λ vars. record { 0 = first } ∷ vars) (numbered_push (suc first) n)))
-
--- the parts of a block whose last item is this one
-pub block_parts_push : (ks : List ℕ) (k : ℕ) (tail : Bool) → block_parts (ks ++ k ∷ []) tail ≡ map early ks ++ part k [] tail ∷ []
-block_parts_push [] k tail = refl
-block_parts_push (a ∷ []) k tail = refl
-block_parts_push (a ∷ b ∷ ks) k tail = ap (λ parts. early a ∷ parts) (block_parts_push (b ∷ ks) k tail)
-
-pub block_of : (keys ks : List ℕ) (k : ℕ) (tail : Bool) (parts : List Part) (last : Part) → keys ≡ ks ++ k ∷ [] → map early ks ≡ parts → last ≡ part k [] tail
-    → block_parts keys tail ≡ parts ++ last ∷ []
-block_of keys ks k tail parts last e f g =
-    ap (λ x. block_parts x tail) e ∙ block_parts_push ks k tail ∙ ap (λ x. x ++ part k [] tail ∷ []) f ∙ ap (λ x. parts ++ x ∷ []) (sym g)
-
--- ---- a node fits the shape of its row
+use Rattle.core_frames.specs.Building.{IsNode}
 
 fits_local : (shared : Shared) (vars : List Var) (tail : Bool) (i : ℕ) (v : Var) (c : Core) → slice_get vars i ≡ Some v → IsNode (code.Local v) tail c → Fits shared vars tail (local i) c
 fits_local shared vars tail i v (Node.Local w) e h = e ∙ ap Some h

@@ -1,7 +1,7 @@
 // Nodes from the nodes of their parts. A shape with parts that aren't its own never comes: the answer is want of memory.
 ghost use Rattle.std.specs.Prelude.{◌≡◌, ◌∷◌, ◌++◌, [], false, true, map, List, ℕ, IfOk, OnOk};
 ghost use Rattle.t_core.specs.Nodes.{part as node_part, early, block_parts};
-ghost use Rattle.t_expand.specs.Building.{variables_of, part_of, IsBuilt};
+ghost use Rattle.core_frames.specs.Building.{variables_of, part_of, IsBuilt};
 ghost use Rattle.t_rows.specs.declared.rows.Shape.TheVariants as shapes;
 
 use std::alloc::Global;
@@ -31,21 +31,21 @@ pub const NO_VARS: Fresh = Fresh { first: 0, count: 0 };
 fn variables(alloc: Global, vars: Fresh) -> Result<Vars, Memory>
     ensures { IfOk result (λ items. items ≡ variables_of vars) }
 {
-    let mut items = Vec::new(alloc);
     if vars.first.checked_add(vars.count).is_none() {
         return Err(Memory);
     }
+    let mut items = Vec::with_capacity(alloc, vars.count as usize)?;
     for k in 0..vars.count {
         items.push(Var(vars.first + k))?;
     }
     Ok(Vars::from_vec(items))
 }
 
-/// The places of parts around which these variables are bound, and which stand in no tail place.
+/// The places of parts around which these variables are bound, and which stand in no tail place, with room for one more.
 fn places(alloc: Global, vars: Fresh, done: &[Done]) -> Result<Vec<u32>, Memory>
     ensures { IfOk result (λ keys. map (λ k. node_part k (variables_of vars) false) keys.items ≡ map part_of done.now) }
 {
-    let mut keys = Vec::new(alloc);
+    let mut keys = Vec::with_capacity(alloc, done.len().saturating_add(1))?;
     'parts: for part in done {
         if part.tail || part.vars != vars {
             return Err(Memory);
@@ -251,27 +251,30 @@ pub fn leaf(core: Core, done: &[Done]) -> Result<Core, Memory>
 }
 
 /// The node of a shape other than a constant, whose parts are these nodes.
-pub fn node(alloc: Global, shape: Shape, tail: bool, done: &[Done]) -> Result<Core, Memory>
-    ensures { IfOk result (IsBuilt shape tail done.now) }
+pub fn node(alloc: Global, shape: &Shape, tail: bool, done: &[Done]) -> Result<Core, Memory>
+    ensures { IfOk result (IsBuilt shape.now tail done.now) }
 {
     match shape {
-        Shape::Local(v) => leaf(Core::Local(v), done),
-        Shape::Global(g) => leaf(Core::Global(g), done),
-        Shape::BuiltinValue(p) => leaf(Core::Builtin(p), done),
-        Shape::OpValue(o) => leaf(Core::Op(o), done),
+        Shape::Local(v) => leaf(Core::Local(*v), done),
+        Shape::Global(g) => leaf(Core::Global(*g), done),
+        Shape::BuiltinValue(p) => leaf(Core::Builtin(*p), done),
+        Shape::OpValue(o) => leaf(Core::Op(*o), done),
         Shape::Lambda => lambda(alloc, tail, done),
         Shape::If => if_node(tail, done),
         Shape::Block => block(alloc, tail, done),
         Shape::Let => let_node(alloc, tail, done),
         Shape::Labels => labels(alloc, tail, done),
-        Shape::SetLocal(v) => set_local(v, tail, done),
-        Shape::SetGlobal(g) => set_global(g, tail, done),
+        Shape::SetLocal(v) => set_local(*v, tail, done),
+        Shape::SetGlobal(g) => set_global(*g, tail, done),
         Shape::Catch => catch_node(tail, done),
         Shape::Object(ops) => object(alloc, ops.as_slice(), tail, done),
         Shape::Call => call(alloc, tail, done),
         Shape::Primitive(prim) => {
             let operands = Keys::from_vec(places(alloc, NO_VARS, done)?);
-            Ok(Core::Prim { prim, operands })
+            Ok(Core::Prim {
+                prim: *prim,
+                operands,
+            })
         }
         Shape::Constant(_) | Shape::Nothing => Err(Memory),
     }

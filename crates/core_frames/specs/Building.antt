@@ -7,8 +7,8 @@ use Rattle.t_core.specs.Nodes.{Part, part, parts_of}
 use Rattle.t_rows.specs.declared.rows.Shape.{Shape}
 use Rattle.t_rows.specs.declared.rows.Shape.TheVariants as shape
 use Rattle.expansion.specs.Lists.{numbered}
-use Rattle.t_expand.specs.declared.build.Done.{Done}
-use Rattle.t_expand.specs.declared.build.Fresh.{Fresh}
+use Rattle.core_frames.specs.declared.build.Done.{Done}
+use Rattle.core_frames.specs.declared.build.Fresh.{Fresh}
 
 abbrev pub variables_of : Fresh → List Var
 variables_of f = numbered f.first f.count
