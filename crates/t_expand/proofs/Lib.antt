@@ -1,4 +1,3 @@
-pub mod EntryLemmas
 pub mod FirstLemmas
 pub mod FitLemmas
 pub mod FormLemmas
@@ -7,9 +6,7 @@ pub mod GrowthLemmas
 pub mod KeepingLemmas
 pub mod KindLemmas
 pub mod MadeLemmas
-pub mod MarkLemmas
 pub mod NamingLemmas
-pub mod PlaceLemmas
 pub mod QuotedLemmas
 pub mod RefusalLemmas
 pub mod ScopeLemmas

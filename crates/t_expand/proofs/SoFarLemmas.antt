@@ -1,5 +1,5 @@
 -- From one form at top level to the next.
-use Rattle.std.proofs.Common.{◌≡◌, ◌⊎◌, inl, inr, ℕ, suc, zero, ◌+◌, ◌<◌, ◌≤◌, Bool, false, List, [], ◌∷◌, ◌++◌, length, take, replicate, get_or, Some, None, slice_get, refl, sym, ap, subst, ◌∙◌, arith}
+use Rattle.std.proofs.Common.{◌≡◌, ◌⊎◌, inl, inr, ℕ, ◌<◌, ◌≤◌, Bool, false, List, [], ◌∷◌, ◌++◌, length, take, replicate, Some, None, slice_get, refl, sym, ap, subst, ◌∙◌, arith}
 use Rattle.std.proofs.lemmas.List.{take-append-le, length-append, length-replicate, get_or-replicate}
 use Rattle.std.proofs.lemmas.Bool.{cases_order}
 use Rattle.std.proofs.lemmas.Option.{slice_get_within, slice_get-get_or, get_or_from_slice_get, same_Some}
@@ -9,18 +9,15 @@ use Rattle.t_base.specs.declared.basics.Span.{Span}
 use Rattle.t_base.specs.declared.shared_parts.Shared.{Shared}
 use Rattle.t_core.specs.declared.forms.Form.{Form}
 use Rattle.t_forms.specs.Names.{Bound}
-use Rattle.t_forms.specs.declared.arena.Cell.{Cell}
 use Rattle.t_forms.proofs.Keeping.{keeps_append}
 use Rattle.t_rows.specs.declared.refusal.Refusal.{Refusal}
 use Rattle.t_expand.specs.Growth.{IsGrown, Keeps}
-use Rattle.t_expand.specs.Marks.{Marks}
+use Rattle.unit_tops.specs.Marks.{Marks}
 use Rattle.expansion.specs.Meaning.{FormMeans, FormsMean}
 use Rattle.expansion.specs.Refusals.{IsFirstOf, RefusedTop, RefusedAmong}
 use Rattle.t_expand.specs.SoFar.{SoFar}
-use Rattle.t_expand.specs.Tops.{IsTop, AreTops}
 use Rattle.expansion.specs.Units.{Top, names_defined}
 use Rattle.t_expand.specs.declared.driver_state.Expansion.{Expansion}
-use Rattle.t_expand.specs.declared.tops.Top.{Top as CodeTop}
 use Rattle.t_expand.specs.declared.unit_all.FormList.{FormList}
 use Rattle.t_expand.specs.declared.unit_top.Expanded.{Expanded}
 use Rattle.t_expand.proofs.FirstLemmas.{first_same, first_among, was_none}
@@ -31,31 +28,6 @@ use Rattle.t_expand.proofs.KeepingLemmas.{keeps_same, keeps_trans, grown_trans}
 seam_get : {A : Type 0} (xs : List A) (x : A) → slice_get (xs ++ x ∷ []) (length xs) ≡ Some x
 seam_get [] x = refl
 seam_get (y ∷ xs) x = seam_get xs x
-
--- the forms of the code and of the definition are as many
-pub as_many : (names : List (List ℕ)) (cells : List Cell) (cs : List CodeTop) (ts : List Top) → AreTops names cells cs ts → length cs ≡ length ts
-as_many names cells [] [] are = refl
-as_many names cells [] (t ∷ ts) are = absurd are
-as_many names cells (c ∷ cs) [] are = absurd are
-as_many names cells (c ∷ cs) (t ∷ ts) are = ap suc (as_many names cells cs ts are.1)
-
--- the form at a place
-pub record TopAt (names : List (List ℕ)) (cells : List Cell) (c : CodeTop) (ts : List Top) (i : ℕ) : Type 0 where
-  pub top : Top
-  pub next : take (i + 1) ts ≡ take i ts ++ top ∷ []
-  pub is : IsTop names cells c top
-
-pub top_at : (names : List (List ℕ)) (cells : List Cell) (cs : List CodeTop) (ts : List Top) (i : ℕ) (c : CodeTop) → AreTops names cells cs ts → i < length cs
-    → c ≡ get_or cs i c → TopAt names cells c ts i
-top_at names cells [] ts i c are below e = absurd (omega (arith, below))
-top_at names cells (x ∷ cs) [] i c are below e = absurd are
-top_at names cells (x ∷ cs) (t ∷ ts) zero c are below e =
-    record { top = t; next = refl; is = subst (λ y. IsTop names cells y t) (sym e) are.0 }
-top_at names cells (x ∷ cs) (t ∷ ts) (suc i) c are below e =
-    let less : i < length cs = omega (arith, below) in
-    let r = top_at names cells cs ts i c are.1 less e in
-    let more : suc i + 1 ≡ suc (i + 1) = omega arith in
-    record { top = r.top; next = rw more (ap (λ l. t ∷ l) r.next); is = r.is }
 
 -- ---- refusals
 

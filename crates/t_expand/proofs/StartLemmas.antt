@@ -11,7 +11,7 @@ use Rattle.expand_laws.proofs.Counting.{once_none, times_none}
 use Rattle.t_expand.specs.Outcome.{IsStarted}
 use Rattle.t_expand.specs.Tallies.{AreTallied, named_by_pairs}
 use Rattle.t_expand.specs.declared.driver_state.Expansion.{Expansion}
-use Rattle.t_expand.specs.declared.entries.Entries.{Entries}
+use Rattle.unit_tops.specs.declared.entries.Entries.{Entries}
 use Rattle.t_forms.specs.declared.arena.Cell.{Cell}
 
 none_named : EachOnce 0 []

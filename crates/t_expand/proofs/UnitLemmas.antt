@@ -13,18 +13,18 @@ use Rattle.std.specs.Global.{Vec}
 use Rattle.t_rows.specs.Rows.{refusal}
 use Rattle.t_rows.specs.declared.refusal.SyntaxKind.{SyntaxKind}
 use Rattle.t_rows.specs.declared.refusal.Refusal.{Refusal}
-use Rattle.t_expand.specs.Entries.{AreEntries}
+use Rattle.unit_tops.specs.Entries.{AreEntries}
 use Rattle.t_expand.specs.Growth.{IsGrown, Keeps, IsReady}
 use Rattle.expansion.specs.Meaning.{IsCoreOf, FormsMean}
 use Rattle.t_expand.specs.Outcome.{IsStarted, IsPrepared, IsText, IsFinished, IsOutcome, IsRefusedWith}
 use Rattle.expansion.specs.Refusals.{IsFirstOf, IsFirstRefusal, RefusedAmong, RefusedIn, number}
 use Rattle.expansion.specs.Settling.{all_settled}
 use Rattle.t_expand.specs.Tallies.{AreTallied}
-use Rattle.t_expand.specs.Tops.{AreTops}
-use Rattle.t_expand.specs.declared.tops.Top.{Top as CodeTop}
+use Rattle.unit_tops.specs.Tops.{AreTops}
+use Rattle.unit_tops.specs.declared.tops.Top.{Top as CodeTop}
 use Rattle.expansion.specs.Units.{Top, tops_of, entries_of, definitions_of}
 use Rattle.t_expand.specs.declared.driver_state.Expansion.{Expansion}
-use Rattle.t_expand.specs.declared.entries.Entries.{Entries}
+use Rattle.unit_tops.specs.declared.entries.Entries.{Entries}
 use Rattle.t_expand.specs.declared.fault.SyntaxFault.{SyntaxFault}
 use Rattle.t_expand.specs.declared.fault.SyntaxFault.TheVariants as faults
 use Rattle.t_expand.specs.declared.unit_all.FormList.{FormList}

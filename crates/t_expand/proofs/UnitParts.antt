@@ -25,7 +25,7 @@ use Rattle.t_expand.specs.Growth.{Keeps}
 use Rattle.t_expand.specs.Outcome.{IsPrepared, IsText, IsFinished}
 use Rattle.t_expand.specs.Tallies.{AreTallied, bound_by, named_by, named_by_pairs}
 use Rattle.t_expand.specs.declared.driver_state.Expansion.{Expansion}
-use Rattle.t_expand.specs.declared.tops.Top.{Top as CodeTop}
+use Rattle.unit_tops.specs.declared.tops.Top.{Top as CodeTop}
 use Rattle.t_expand.specs.declared.unit_all.FormList.{FormList}
 
 -- the tallies of the forms, of a unit of them

@@ -1,11 +1,8 @@
 pub mod Driving
-pub mod Entries
 pub mod Expanding
 pub mod Growth
-pub mod Marks
 pub mod Outcome
 pub mod Quoting
 pub mod Rooted
 pub mod SoFar
 pub mod Tallies
-pub mod Tops

@@ -9,17 +9,17 @@ use Rattle.core_size.specs.Sizes.{IsLargest}
 use Rattle.t_forms.specs.declared.arena.Cell.{Cell}
 use Rattle.t_rows.specs.declared.refusal.Refusal.{Refusal}
 use Rattle.t_expand.specs.declared.driver_state.Expansion.{Expansion}
-use Rattle.t_expand.specs.declared.entries.Entries.{Entries}
+use Rattle.unit_tops.specs.declared.entries.Entries.{Entries}
 use Rattle.t_expand.specs.declared.fault.SyntaxFault.{SyntaxFault}
 use Rattle.t_expand.specs.declared.fault.SyntaxFault.TheVariants as faults
 use Rattle.t_expand.specs.declared.unit_all.FormList.{FormList}
 use Rattle.t_expand.specs.Growth.{IsGrown, IsReady}
 use Rattle.expansion.specs.Meaning.{IsCoreOf}
 use Rattle.expansion.specs.Refusals.{RefusedIn, IsFirstRefusal}
-use Rattle.t_expand.specs.Tops.{AreTops}
+use Rattle.unit_tops.specs.Tops.{AreTops}
 use Rattle.expansion.specs.Settling.{first_kind, has_default}
 use Rattle.expansion.specs.Units.{tops_of, definitions_of, entries_of, is_global, global_texts, op_texts}
-use Rattle.t_expand.specs.declared.tops.Top.{Top as CodeTop}
+use Rattle.unit_tops.specs.declared.tops.Top.{Top as CodeTop}
 use Rattle.t_rows.specs.Rows.{refusal}
 use Rattle.t_forms.specs.Data.{datum_of}
 use Rattle.t_reader.specs.Grammar.{Tree}

@@ -5,7 +5,7 @@ use Rattle.t_forms.specs.Names.{Bound}
 use Rattle.t_expand.specs.declared.driver_state.Expansion.{Expansion}
 use Rattle.t_expand.specs.declared.unit_all.FormList.{FormList}
 use Rattle.t_expand.specs.Growth.{IsGrown, Keeps}
-use Rattle.t_expand.specs.Marks.{Marks}
+use Rattle.unit_tops.specs.Marks.{Marks}
 use Rattle.expansion.specs.Meaning.{FormsMean}
 use Rattle.expansion.specs.Refusals.{IsFirstOf, RefusedAmong}
 use Rattle.expansion.specs.Units.{Top, names_defined}

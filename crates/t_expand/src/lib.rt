@@ -5,15 +5,12 @@
 mod driver;
 mod driver_first;
 mod driver_state;
-mod entries;
 mod fault;
 mod quoted;
 mod spans;
-mod tops;
 mod unit;
 mod unit_all;
 mod unit_bytes;
-mod unit_marks;
 mod unit_top;
 
 pub use crate::fault::SyntaxFault;

@@ -18,10 +18,8 @@ ghost use Rattle.t_expand.specs.Outcome.{IsRefusedWith, IsStarted, IsPrepared, I
 ghost use Rattle.t_expand.specs.Tallies.{AreTallied};
 
 use crate::driver_state::{Expansion, NodeList};
-use crate::entries::{Entries, entries_of};
 use crate::fault::SyntaxFault;
 use crate::spans::Spans;
-use crate::tops::{Top, tops_of};
 use crate::unit_all::FormList;
 use crate::unit_bytes::{bytes_kept, bytes_read};
 use core_size::largest;
@@ -32,6 +30,7 @@ use t_forms::{Forms, Scope, load};
 use t_objects::OpTable;
 use t_reader::{Node, Unit};
 use t_rows::Refusal;
+use unit_tops::{Entries, Top, entries_of, tops_of};
 
 /// Forms at top level before the first is expanded.
 #[derive(Drop)]

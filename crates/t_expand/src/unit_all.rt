@@ -5,18 +5,17 @@ ghost use Rattle.t_forms.specs.Names.{Bound};
 ghost use Rattle.t_expand.specs.Growth.{IsGrown, Keeps, IsReady};
 ghost use Rattle.expansion.specs.Settling.{all_settled};
 ghost use Rattle.t_expand.specs.Tallies.{AreTallied};
-ghost use Rattle.t_expand.specs.Tops.{AreTops};
+ghost use Rattle.unit_tops.specs.Tops.{AreTops};
 ghost use Rattle.expansion.specs.Units.{Top as SpecTop};
 ghost use Rattle.expansion.specs.Meaning.{FormsMean};
 ghost use Rattle.expansion.specs.Refusals.{RefusedAmong, IsFirstOf};
 
 use crate::driver_state::Expansion;
 use crate::spans::Spans;
-use crate::tops::Top;
-use crate::unit_marks::NameMarks;
 use crate::unit_top::Expanded;
 use t_base::Memory;
 use t_core::Form;
+use unit_tops::{NameMarks, Top};
 
 /// The forms of a core, and the spans of the nodes of each.
 #[derive(Drop)]

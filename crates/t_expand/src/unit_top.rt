@@ -11,8 +11,8 @@ ghost use Rattle.form_rows.specs.Definitions.{IsDefinition};
 ghost use Rattle.t_rows.specs.Bindings.{IsBinder};
 ghost use Rattle.std.specs.List.{AllZip};
 ghost use Rattle.t_expand.specs.Growth.{IsGrown, Keeps, IsReady};
-ghost use Rattle.t_expand.specs.Marks.{Marks};
-ghost use Rattle.t_expand.specs.Tops.{IsTop};
+ghost use Rattle.unit_tops.specs.Marks.{Marks};
+ghost use Rattle.unit_tops.specs.Tops.{IsTop};
 ghost use Rattle.expansion.specs.Units.{Top as SpecTop, defining, meaning_of, names_defined};
 ghost use Rattle.expansion.specs.Meaning.{RootMeans, ValueMeans, FormMeans, IsKind, top_scope};
 ghost use Rattle.expansion.specs.Refusals.{Refused, RefusedDefinition, RefusedTop, IsFirstOf, twice_defined};
@@ -24,10 +24,7 @@ ghost use Rattle.t_core.specs.Whole.{is_lambda_at};
 
 use crate::driver_first::noted;
 use crate::driver_state::{Expansion, NodeList};
-use crate::entries::defined_name;
 use crate::spans::Spans;
-use crate::tops::Top;
-use crate::unit_marks::NameMarks;
 use form_rows::Definition;
 use std::mem;
 use t_base::{Global1, GlobalKind, Memory, Span};
@@ -35,6 +32,7 @@ use t_core::{Core, Form, FormKind};
 use t_forms::Meant;
 use t_rows::names::{Binder, twice};
 use t_rows::{Refusal, SyntaxKind};
+use unit_tops::{NameMarks, Top, defined_name};
 
 /// The nodes of a form with their spans, and the place of the root.
 #[derive(Drop)]

@@ -1,6 +1,6 @@
 use Rattle.std.proofs.Common.{map}
 use Rattle.t_forms.specs.Data.{datum_of}
-use Rattle.t_expand.specs.Tops.{AreTops}
+use Rattle.unit_tops.specs.Tops.{AreTops}
 use Rattle.expansion.specs.Units.{tops_of as forms_of, definitions_of}
 use Rattle.t_expand.proofs.UnitLemmas.{core_made, nothing_refused}
 use Rattle.t_expand.proofs.unit.expand_prepared.Goals as goal

@@ -5,13 +5,14 @@ use Rattle.t_expand.specs.Growth.{IsReady}
 use Rattle.expansion.specs.Settling.{all_settled}
 use Rattle.t_expand.specs.SoFar.{SoFar}
 use Rattle.t_expand.specs.Tallies.{AreTallied}
-use Rattle.t_expand.specs.Tops.{AreTops}
+use Rattle.unit_tops.specs.Tops.{AreTops}
 use Rattle.expansion.specs.Units.{Top, names_defined}
-use Rattle.t_expand.specs.Marks.{Marks}
+use Rattle.unit_tops.specs.Marks.{Marks}
 use Rattle.t_expand.proofs.KeepingLemmas.{ready_kept}
 use Rattle.t_expand.proofs.TopLemmas.{top_kept}
 use Rattle.t_expand.proofs.SettlingLemmas.{settled_next}
-use Rattle.t_expand.proofs.SoFarLemmas.{so_far_none, so_far_more, top_at, as_many}
+use Rattle.unit_tops.proofs.TopLemmas.{top_at, as_many}
+use Rattle.t_expand.proofs.SoFarLemmas.{so_far_none, so_far_more}
 use Rattle.t_expand.proofs.driver_state.Expansion.expand_all.Goals as goal
 use Rattle.t_expand.proofs.driver_state.Expansion.expand_all.Goals.{After-drop-marks-inside-2}
 

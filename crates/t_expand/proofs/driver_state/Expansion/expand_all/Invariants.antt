@@ -4,7 +4,7 @@ use Rattle.t_expand.specs.Growth.{IsReady}
 use Rattle.expansion.specs.Settling.{all_settled}
 use Rattle.t_expand.specs.SoFar.{SoFar}
 use Rattle.t_expand.specs.Tallies.{AreTallied}
-use Rattle.t_expand.specs.Tops.{AreTops}
+use Rattle.unit_tops.specs.Tops.{AreTops}
 use Rattle.expansion.specs.Units.{Top}
 use Rattle.t_expand.proofs.driver_state.Expansion.expand_all.Given as goal
 

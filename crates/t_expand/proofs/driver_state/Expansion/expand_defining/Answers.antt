@@ -1,5 +1,5 @@
 use Rattle.std.proofs.Common.{[], ◌∷◌, Contains, refl, sym, subst, ◌∙◌}
-use Rattle.t_expand.specs.Marks.{Marks}
+use Rattle.unit_tops.specs.Marks.{Marks}
 use Rattle.expansion.specs.Refusals.{RefusedDefinition, twice_defined}
 use Rattle.expansion.specs.Units.{defining, defined_name as name_of}
 use Rattle.t_expand.proofs.FirstLemmas.{first_then}

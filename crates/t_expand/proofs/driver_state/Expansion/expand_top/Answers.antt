@@ -2,7 +2,7 @@ use Rattle.std.proofs.Common.{◌≡◌, refl}
 use Rattle.t_rows.specs.Rows.{refusal}
 use Rattle.t_rows.specs.declared.refusal.SyntaxKind.TheVariants.{BadForm}
 use Rattle.t_expand.proofs.FirstLemmas.{none_of}
-use Rattle.t_expand.proofs.TopLemmas.{is_defining_top, is_broken_top, is_expression_top}
+use Rattle.unit_tops.proofs.TopLemmas.{is_defining_top, is_broken_top, is_expression_top}
 use Rattle.t_expand.proofs.UnitTallies.{tallied_more}
 use Rattle.t_expand.proofs.driver_state.Expansion.expand_top.Goals as goal
 

@@ -1,8 +1,8 @@
 use Rattle.std.proofs.Common.{◌≡◌, Some, None, slice_get, refl, sym, ◌∙◌}
 use Rattle.std.proofs.lemmas.Result.{on_ok_weaker}
 use Rattle.expansion.specs.Units.{defined_name as name_of}
-use Rattle.t_expand.proofs.EntryLemmas.{written_name, entry_known, entry_added}
-use Rattle.t_expand.proofs.entries.Entries.add.Goals as goal
+use Rattle.unit_tops.proofs.EntryLemmas.{written_name, entry_known, entry_added}
+use Rattle.unit_tops.proofs.entries.Entries.add.Goals as goal
 
 pub returns-in-Some-Some : goal.returns-in-Some-Some
 returns-in-Some-Some c names cells d entries apart of are =

@@ -9,7 +9,7 @@ use Rattle.t_forms.specs.declared.arena.Form.TheVariants as form
 use Rattle.t_forms.specs.declared.arena.Cell.{Cell}
 use Rattle.t_forms.specs.Data.{Atom, given, variable, builtin, operation, listing, Datum, atom, cons}
 use Rattle.t_forms.specs.Held.{Held, IsAtom, IsSymbol}
-use Rattle.t_expand.proofs.tops.is_herald_head.Goals as goal
+use Rattle.unit_tops.proofs.tops.is_herald_head.Goals as goal
 
 of_symbol : (names : List (List ℕ)) (f : Form) (text : List ℕ) (w : Option Word) (n : NamePlace) → f ≡ form.Sym n → IsSymbol names f text w → n.0 < length names
 of_symbol names f text (Some w) n e is = absurd (let x : ⊥ = cc in x)

@@ -1,9 +1,9 @@
 use Rattle.std.proofs.Common.{ℕ, List, map, take}
 use Rattle.t_forms.specs.Data.{Datum}
 use Rattle.t_forms.specs.Held.{AllHeld, Extends}
-use Rattle.t_expand.specs.Tops.{AreTops}
+use Rattle.unit_tops.specs.Tops.{AreTops}
 use Rattle.expansion.specs.Units.{top_of}
-use Rattle.t_expand.proofs.tops.all_tops.Given as goal
+use Rattle.unit_tops.proofs.tops.all_tops.Given as goal
 
 abbrev pub invariant-keys : goal.invariant-keys
 invariant-keys l = record {

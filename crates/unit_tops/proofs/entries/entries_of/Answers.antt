@@ -1,10 +1,10 @@
 use Rattle.std.proofs.Common.{◌≡◌, ◌≤◌, List, [], ◌∷◌, ◌++◌, length, take, subst, arith}
 use Rattle.std.proofs.lemmas.List.{take_all}
 use Rattle.std.proofs.lemmas.List.Sums.{fold-append}
-use Rattle.t_expand.specs.Entries.{AreEntries}
+use Rattle.unit_tops.specs.Entries.{AreEntries}
 use Rattle.expansion.specs.Units.{Top, with_top, entries_of}
-use Rattle.t_expand.proofs.SoFarLemmas.{top_at, as_many}
-use Rattle.t_expand.proofs.entries.entries_of.Goals as goal
+use Rattle.unit_tops.proofs.TopLemmas.{top_at, as_many}
+use Rattle.unit_tops.proofs.entries.entries_of.Goals as goal
 
 entries_last : (before : List Top) (t : Top) → entries_of (before ++ t ∷ []) ≡ with_top (entries_of before) t
 entries_last before t = fold-append with_top [] before (t ∷ [])

@@ -1,10 +1,10 @@
 use Rattle.std.proofs.Common.{◌≡◌, ◌≢◌, ℕ, List, ◌++◌, take, AllPairs}
 use Rattle.t_reader.specs.Unit.{fixed_names}
 use Rattle.t_forms.specs.declared.arena.Cell.{Cell}
-use Rattle.t_expand.specs.Entries.{AreEntries}
-use Rattle.t_expand.specs.Tops.{AreTops}
+use Rattle.unit_tops.specs.Entries.{AreEntries}
+use Rattle.unit_tops.specs.Tops.{AreTops}
 use Rattle.expansion.specs.Units.{Top, entries_of}
-use Rattle.t_expand.proofs.entries.entries_of.Given as goal
+use Rattle.unit_tops.proofs.entries.entries_of.Given as goal
 
 abbrev pub invariant-tops : goal.invariant-tops
 invariant-tops l =

@@ -1,4 +1,4 @@
-use Rattle.t_expand.proofs.tops.defined_by.Goals as goal
+use Rattle.unit_tops.proofs.tops.defined_by.Goals as goal
 
 pub returns-in-Some-clause-defines : goal.returns-in-Some-clause-defines
 returns-in-Some-clause-defines c names d held =

@@ -3,7 +3,7 @@ ghost use Rattle.std.specs.Prelude.{◌≡◌, ◌≢◌, ◌++◌, ◌∷◌, [
 ghost use Rattle.std.specs.List.{list_any};
 ghost use Rattle.t_forms.specs.Data.{Name as SpecName, is_same_name};
 ghost use Rattle.t_forms.specs.Held.{IsName};
-ghost use Rattle.t_expand.specs.Marks.{Marks};
+ghost use Rattle.unit_tops.specs.Marks.{Marks};
 
 use std::alloc::Global;
 use std::marker::Model;

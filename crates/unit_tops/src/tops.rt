@@ -5,7 +5,7 @@ ghost use Rattle.t_forms.specs.Held.{Held, AllHeld, Extends};
 ghost use Rattle.expansion.specs.Units.{definition_of_items, definition_in, is_defining, defines, is_herald_items, without_herald, top_of, tops_of};
 ghost use Rattle.t_rows.specs.Lists.{Grows, AreItems};
 ghost use Rattle.form_rows.specs.Definitions.{IsDefinitionIf};
-ghost use Rattle.t_expand.specs.Tops.{IsOperator, IsTop, AreTops, is_herald_head};
+ghost use Rattle.unit_tops.specs.Tops.{IsOperator, IsTop, AreTops, is_herald_head};
 
 use form_rows::{Definition, definition_of};
 use t_base::{Memory, Names, Span};

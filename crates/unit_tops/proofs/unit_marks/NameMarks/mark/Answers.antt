@@ -1,7 +1,7 @@
 use Rattle.std.proofs.Common.{sym, subst, true, slice_set, ◌++◌, ◌∷◌, [], List, Bool}
-use Rattle.t_expand.specs.Marks.{Marks}
-use Rattle.t_expand.proofs.MarkLemmas.{marked}
-use Rattle.t_expand.proofs.unit_marks.NameMarks.mark.Goals as goal
+use Rattle.unit_tops.specs.Marks.{Marks}
+use Rattle.unit_tops.proofs.MarkLemmas.{marked}
+use Rattle.unit_tops.proofs.unit_marks.NameMarks.mark.Goals as goal
 
 pub returns-in-Some-clause-marked : goal.returns-in-Some-clause-marked
 returns-in-Some-clause-marked c names defined n apart is m =

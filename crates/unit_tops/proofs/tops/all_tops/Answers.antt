@@ -2,10 +2,10 @@ use Rattle.std.proofs.Common.{◌≤◌, List, length, map, arith, subst}
 use Rattle.std.proofs.lemmas.List.{take_all}
 use Rattle.t_forms.specs.Data.{Datum}
 use Rattle.t_forms.proofs.Keeping.{extends_trans}
-use Rattle.t_expand.specs.Tops.{AreTops}
+use Rattle.unit_tops.specs.Tops.{AreTops}
 use Rattle.expansion.specs.Units.{top_of}
-use Rattle.t_expand.proofs.TopLemmas.{next_top, as_many_held}
-use Rattle.t_expand.proofs.tops.all_tops.Goals as goal
+use Rattle.unit_tops.proofs.TopLemmas.{next_top, as_many_held}
+use Rattle.unit_tops.proofs.tops.all_tops.Goals as goal
 
 pub keys-preserved : goal.keys-preserved
 keys-preserved c = record {

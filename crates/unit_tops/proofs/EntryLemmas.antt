@@ -25,11 +25,11 @@ use Rattle.form_rows.specs.declared.definitions.Definition.{Definition as CodeDe
 use Rattle.form_rows.specs.Definitions.{IsDefinition}
 use Rattle.t_rows.specs.Lists.{IsHeldIf}
 use Rattle.t_rows.specs.Rows.{Definition, define, lset, operation_form}
-use Rattle.t_expand.specs.Entries.{AreEntries, IsGlobalAdded, IsOpAdded, IsPut, is_variable}
+use Rattle.unit_tops.specs.Entries.{AreEntries, IsGlobalAdded, IsOpAdded, IsPut, is_variable}
 use Rattle.expansion.specs.Settling.{first_kind, has_default}
 use Rattle.expansion.specs.Units.{Entry, entry, defined_name, is_global, is_assigned, has_entry, with_definition, meanings_from, text_of, texts}
-use Rattle.t_expand.specs.declared.entries.Entries.{Entries}
-use Rattle.t_expand.proofs.PlaceLemmas.{got_same, got_other}
+use Rattle.unit_tops.specs.declared.entries.Entries.{Entries}
+use Rattle.unit_tops.proofs.PlaceLemmas.{got_same, got_other}
 
 -- ---- names
 

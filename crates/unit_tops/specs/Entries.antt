@@ -8,7 +8,7 @@ use Rattle.t_forms.specs.declared.scope.Defined.TheVariants as kept
 use Rattle.t_forms.specs.Held.{IsTable}
 use Rattle.form_rows.specs.declared.definitions.Definition.{Definition as CodeDefinition}
 use Rattle.form_rows.specs.declared.definitions.Definition.TheVariants as code
-use Rattle.t_expand.specs.declared.entries.Entries.{Entries}
+use Rattle.unit_tops.specs.declared.entries.Entries.{Entries}
 use Rattle.expansion.specs.Settling.{first_kind, has_default}
 use Rattle.expansion.specs.Units.{Entry, is_global, meanings_from, texts}
 

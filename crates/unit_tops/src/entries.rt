@@ -7,8 +7,8 @@ ghost use Rattle.t_rows.specs.Rows.{Definition as SpecDefinition};
 ghost use Rattle.form_rows.specs.Definitions.{IsDefinition};
 ghost use Rattle.t_rows.specs.Bindings.{IsBinder};
 ghost use Rattle.expansion.specs.Units.{Top as SpecTop, Entry, defined_name, with_top, with_definition, entries_of};
-ghost use Rattle.t_expand.specs.Tops.{IsTop, AreTops};
-ghost use Rattle.t_expand.specs.Entries.{AreEntries, IsGlobalAdded, IsOpAdded, IsPut};
+ghost use Rattle.unit_tops.specs.Tops.{IsTop, AreTops};
+ghost use Rattle.unit_tops.specs.Entries.{AreEntries, IsGlobalAdded, IsOpAdded, IsPut};
 
 use crate::tops::Top;
 use form_rows::Definition;

@@ -10,8 +10,8 @@ use Rattle.t_forms.specs.declared.scope.LocalName.TheVariants as key
 use Rattle.t_forms.specs.Data.{Name, written, made, is_same_name}
 use Rattle.t_forms.specs.Held.{IsName}
 use Rattle.t_forms.proofs.Bindings.{same_place}
-use Rattle.t_expand.specs.Marks.{Marks}
-use Rattle.t_expand.proofs.PlaceLemmas.{got_same, got_other}
+use Rattle.unit_tops.specs.Marks.{Marks}
+use Rattle.unit_tops.proofs.PlaceLemmas.{got_same, got_other}
 
 or_last : (p : Name → Bool) (defined : List Name) (n : Name) → list_any p (defined ++ n ∷ []) ≡ (list_any p defined || (p n || false))
 or_last p defined n = list_any-append p defined (n ∷ [])

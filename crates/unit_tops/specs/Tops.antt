@@ -6,8 +6,8 @@ use Rattle.t_forms.specs.declared.arena.Cell.{Cell}
 use Rattle.t_forms.specs.Data.{Datum, atom, given}
 use Rattle.t_forms.specs.Held.{Held}
 use Rattle.form_rows.specs.Definitions.{IsDefinition}
-use Rattle.t_expand.specs.declared.tops.Top.{Top as CodeTop}
-use Rattle.t_expand.specs.declared.tops.Top.TheVariants as code
+use Rattle.unit_tops.specs.declared.tops.Top.{Top as CodeTop}
+use Rattle.unit_tops.specs.declared.tops.Top.TheVariants as code
 use Rattle.expansion.specs.Units.{Top, defining, broken, expression}
 
 -- the place of the first of the items, if there is one

@@ -1,0 +1,4 @@
+pub mod EntryLemmas
+pub mod MarkLemmas
+pub mod PlaceLemmas
+pub mod TopLemmas
