@@ -13,6 +13,11 @@ use Rattle.std.proofs.lemmas.Option.{same_Some}
 
 -- ---- the last item of a list, which is the first one backwards
 
+-- what stands behind others is at the place that their length is
+pub seam : {A : Type 0} (past : List A) (x : A) (others : List A) → slice_get (past ++ x ∷ others) (length past) ≡ Some x
+seam [] x others = refl
+seam (y ∷ past) x others = seam past x others
+
 from_back : {A : Type 0} (xs : List A) (x : A) (rest : List A) → reverse xs ≡ x ∷ rest → xs ≡ reverse rest ++ x ∷ []
 from_back xs x rest e = sym (reverse-reverse xs) ∙ ap reverse e ∙ reverse-append (x ∷ []) rest
 
@@ -157,14 +162,10 @@ pub last_in : (counted : List CountedNode) (left : List Part) (done : List Done)
     → b ≡ is_last (frames (reverse counted) (reverse left) done)
 last_in counted left done c b got some is = by (reverse counted) refl
   where
-    seam : {A : Type 0} (past : List A) (x : A) → slice_get (past ++ x ∷ []) (length past) ≡ Some x
-    seam [] x = refl
-    seam (y ∷ past) x = seam past x
-
     same : (x : CountedNode) (xs : List CountedNode) → reverse counted ≡ x ∷ xs → c ≡ x
     same x xs e =
         same_Some c x (got ∙ ap (λ l. slice_get l (length counted - 1)) (from_back counted x xs e)
-        ∙ ap (λ n. slice_get (reverse xs ++ x ∷ []) n) (back_place counted (length counted - 1) x xs e refl) ∙ seam (reverse xs) x)
+        ∙ ap (λ n. slice_get (reverse xs ++ x ∷ []) n) (back_place counted (length counted - 1) x xs e refl) ∙ seam (reverse xs) x [])
 
     any : (n : ℕ) (ps : List Part) → reverse left ≡ ps → (n ≡ 0 → ⊥) → b ≡ (length (take n ps) == 0)
     any zero ps e h = absurd (h refl)

@@ -24,6 +24,7 @@ use Rattle.core_frames.specs.declared.build.Done.{Done}
 use Rattle.core_frames.specs.declared.build.Fresh.{Fresh}
 use Rattle.core_frames.specs.declared.frames.NodeState.{NodeState}
 use Rattle.t_expand.specs.declared.driver_state.Expansion.{Expansion}
+use Rattle.core_frames.proofs.FrameLemmas.{seam}
 use Rattle.t_expand.proofs.QuotedLemmas.{AddsConstants_refl}
 use Rattle.expansion.proofs.Added.{Adds_refl}
 use Rattle.expansion.proofs.Places.{precedes_through}
@@ -32,10 +33,6 @@ use Rattle.t_expand.proofs.GrowthLemmas.{Grows_trans, AreParts-Grows, IsOpen-Gro
 use Rattle.t_expand.proofs.FormLemmas.{refused_node, among_node, first_part, later_part, part_cases, among_none}
 
 -- ---- lists
-
-pub seam : {A : Type 0} (past : List A) (x : A) (others : List A) → slice_get (past ++ x ∷ others) (length past) ≡ Some x
-seam [] x others = refl
-seam (y ∷ past) x others = seam past x others
 
 -- what is put last is at the place that the length was
 pub placed : {A : Type 0} (xs : List A) (x : A) (ys : List A) (k : ℕ) → k ≡ length xs → ys ≡ xs ++ x ∷ [] → slice_get ys k ≡ Some x

@@ -5,6 +5,7 @@ ghost use Rattle.t_forms.specs.Names.{Scope as SpecScope};
 ghost use Rattle.t_forms.specs.Held.{Held, IsScope, Extends, Around};
 ghost use Rattle.expansion.specs.Lists.{numbered};
 ghost use Rattle.t_expand.specs.Expanding.{Grows, Expands};
+ghost use Rattle.t_expand.specs.declared.driver_state.Expansion.{Expansion as SpecExpansion};
 ghost use Rattle.t_rows.specs.Given.{AreBinds};
 ghost use Rattle.t_rows.specs.declared.rows.Part.{Part as CodePart};
 ghost use Rattle.t_expand.specs.Driving.{Root, Inside, AreUnder, IsUnder, IsBack, IsEnd, IsNext, Finds, IsOpened, IsMade};
@@ -113,6 +114,26 @@ fn binds_again(shape: &Shape, done: &[Done]) -> bool
     match shape {
         Shape::Labels => done.first().is_some(),
         _ => false,
+    }
+}
+
+/// Goes on behind a part whose node is at a place, if a node waits for it; else this is the place of the root. The names around the
+/// part stay bound.
+fn leave(frames: &mut FrameStack, key: u32) -> Result<Option<u32>, Memory>
+    ensures next { (root : Root) (e : SpecExpansion) → IsBack root e frames.old key → IfOk result (IsNext root e frames.new) }
+    ensures tallied { (before : Before) (e : SpecExpansion) → Tallied before e (roots_back frames.old key) (variables_waiting frames.old) → IfOk result (TalliedNext before e frames.new) }
+{
+    match frames.innermost() {
+        None => Ok(Some(key)),
+        Some(state) => {
+            let done = Done {
+                at: key,
+                vars: state.bound,
+                tail: state.part_tail,
+            };
+            frames.add_done(done)?;
+            Ok(None)
+        }
     }
 }
 
@@ -243,26 +264,6 @@ impl Expansion {
         Ok(key)
     }
 
-    /// Goes on behind a part whose node is at a place, if a node waits for it; else this is the place of the root. The names around the
-    /// part stay bound.
-    fn leave(&self, frames: &mut FrameStack, key: u32) -> Result<Option<u32>, Memory>
-        ensures next { (root : Root) → IsBack root self.now frames.old key → IfOk result (IsNext root self.now frames.new) }
-        ensures tallied { (before : Before) → Tallied before self.now (roots_back frames.old key) (variables_waiting frames.old) → IfOk result (TalliedNext before self.now frames.new) }
-    {
-        match frames.innermost() {
-            None => Ok(Some(key)),
-            Some(state) => {
-                let done = Done {
-                    at: key,
-                    vars: state.bound,
-                    tail: state.part_tail,
-                };
-                frames.add_done(done)?;
-                Ok(None)
-            }
-        }
-    }
-
     /// Goes on with the next part of the innermost node, or ends it. Where no other node is under way it gives the place of the root.
     fn step(&mut self, frames: &mut FrameStack) -> Result<Option<u32>, Memory>
         ensures grows { OnOk result (Grows self.old self.new) }
@@ -276,7 +277,7 @@ impl Expansion {
             }
             None => {
                 let key = self.close(frames)?;
-                self.leave(frames, key)
+                leave(frames, key)
             }
         }
     }

@@ -85,7 +85,7 @@ impl Entries {
         })
     }
 
-    /// Puts a global last. Another error than the want of memory there isn't.
+    /// Puts a global last. The only error is the want of memory.
     fn add_global(&mut self, name: Name, kind: GlobalKind) -> Result<(), Memory>
         ensures { OnOk result (IsGlobalAdded self.old self.new name kind) }
     {
@@ -106,7 +106,7 @@ impl Entries {
         Ok(())
     }
 
-    /// Puts an operation last. Another error than the want of memory there isn't.
+    /// Puts an operation last. The only error is the want of memory.
     fn add_op(&mut self, name: Name, default: bool) -> Result<(), Memory>
         ensures { OnOk result (IsOpAdded self.old self.new name default) }
     {

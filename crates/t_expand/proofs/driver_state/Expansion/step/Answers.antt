@@ -12,12 +12,12 @@ returns-in_ok-enter-in-Some-clause-tallied c before t =
 pub returns-in_ok-key-in-None-clause-next : goal.returns-in_ok-key-in-None-clause-next
 returns-in_ok-key-in-None-clause-next c root distinct u =
     let none = c.in-None.ensures in
-    c.leave.ensures.next root (c.in_ok-key-in-None.ensures.back root (subst (λ l. AreUnder root c.args.self.now l) (sym none.1) u))
+    c.leave.ensures.next root c.close.new.self (c.in_ok-key-in-None.ensures.back root (subst (λ l. AreUnder root c.args.self.now l) (sym none.1) u))
 
 pub returns-in_ok-key-in-None-clause-tallied : goal.returns-in_ok-key-in-None-clause-tallied
 returns-in_ok-key-in-None-clause-tallied c before t =
     let none = c.in-None.ensures in
-    c.leave.ensures.tallied before
+    c.leave.ensures.tallied before c.close.new.self
     (c.in_ok-key-in-None.ensures.tallied before (subst (λ l. Tallied before c.args.self.now (roots_of l) (reserved l)) (sym none.1) t))
 
 pub close-requires : goal.close-requires
