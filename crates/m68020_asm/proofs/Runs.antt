@@ -117,12 +117,15 @@ stands_below p k (suc n) item i lt here is =
 pub stands : (p : Program) (k : ℕ) (item : Item) (i : Instr) → slice_get p.items k ≡ Some item → instruction_of p.labels (p.widths k) (address_in p k) item ≡ Some i → found_at p (address_in p k) (length p.items) ≡ Some i
 stands p k item i here is = stands_below p k (length p.items) item i (slice_get_within p.items k item here) here is
 
--- One step of the items at a place, behind which the next place is.
+-- behind an instruction the next place is
+pub next_place : (p : Program) (k : ℕ) (item : Item) (i : Instr) → slice_get p.items k ≡ Some item → instruction_of p.labels (p.widths k) (address_in p k) item ≡ Some i → address_in p k + length (spelling i) ≡ address_in p (k + 1)
+next_place p k item i here is = omega (arith, address_next_of p.items p.widths k item here, size_is p.labels (p.widths k) (address_in p k) item i is)
+
+-- One step of the items at a place.
 pub item_step_at : (p : Program) (s : State) (k : ℕ) (item : Item) (i : Instr) → s.registers.pc ≡ address_in p k → slice_get p.items k ≡ Some item → instruction_of p.labels (p.widths k) (address_in p k) item ≡ Some i
     → item_step p s ≡ Some (after s (executed s.storage (address_in p k) (with_pc s.registers (address_in p (k + 1))) i))
 item_step_at p s k item i pc here is =
-    let size : address_in p k + length (spelling i) ≡ address_in p (k + 1) = omega (arith, address_next_of p.items p.widths k item here, size_is p.labels (p.widths k) (address_in p k) item i is) in
-    rw (pc, stands p k item i here is, size) refl
+    rw (pc, stands p k item i here is, next_place p k item i here is) refl
 
 -- a label has no bytes: who is at it is at the next place
 pub behind_label : (p : Program) (n k : ℕ) → IsLabelAt p.items n k → address_in p (k + 1) ≡ address_in p k
@@ -182,7 +185,7 @@ module _ (items : List Item) (bytes labels : List ℕ) (can : CanAssemble items)
   starts statics entry k sizes there = (label_address entry k there, refl)
 
   -- each is a row of the table
-  row_of : (k : ℕ) (item : Item) (i : Instr) → slice_get items k ≡ Some item → instruction_of labels (h.widths k) (address items h.widths k) item ≡ Some i → is_row i ≡ true
+  pub row_of : (k : ℕ) (item : Item) (i : Instr) → slice_get items k ≡ Some item → instruction_of labels (h.widths k) (address items h.widths k) item ≡ Some i → is_row i ≡ true
   row_of k (Plain i) j here is = let same : i ≡ j = cc in subst (λ x. is_row x ≡ true) same (can.rows k (Plain i) here).0
   row_of k (Label n) j here is = absurd cc
   row_of k (Branch c n) j here is =
@@ -194,7 +197,8 @@ module _ (items : List Item) (bytes labels : List ℕ) (can : CanAssemble items)
       let at = can.each n (can.addresses k n reg here) in
       subst (λ x. is_row x ≡ true) same (rw (lt-ltb (slice_index labels n) (2 ^ 32) (omega (arith, label_bound n at.0 at.1)), lt-ltb reg 8 (can.rows k (CodeAddr reg n) here)) refl)
 
-  is_at : (s : State) (k : ℕ) (item : Item) (i : Instr) → s.storage.code ≡ bytes → s.registers.pc ≡ address items h.widths k → slice_get items k ≡ Some item → instruction_of labels (h.widths k) (address items h.widths k) item ≡ Some i
+  -- and its bytes stand at the program counter
+  pub is_at : (s : State) (k : ℕ) (item : Item) (i : Instr) → s.storage.code ≡ bytes → s.registers.pc ≡ address items h.widths k → slice_get items k ≡ Some item → instruction_of labels (h.widths k) (address items h.widths k) item ≡ Some i
       → (rest : List ℕ) × IsAt s (code_before items h.widths labels k) (spelling i ++ rest)
   is_at s k item i code pc here is =
       let within = slice_get_within items k item here in

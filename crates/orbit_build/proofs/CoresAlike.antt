@@ -62,7 +62,7 @@ module _ (trees : List Tree) (unit other : UnitCore) (spans others : List (List 
       other.forms.items others (cores_alike trees unit other spans others core also) core.whole.places also.whole.places
 
 module _ (text : List ℕ) (unit other : UnitCore) (one : HasCore text unit) (two : HasCore text other) where
-  same_data : IsCoreOf one.data_ other two.spans
+  pub same_data : IsCoreOf one.data_ other two.spans
   same_data = subst (λ trees. IsCoreOf trees other two.spans) (reads_once text two.data_ one.data_ two.reads one.reads) two.core
 
   pub text_counts : CountAlike unit other

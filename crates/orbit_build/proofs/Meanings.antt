@@ -83,7 +83,7 @@ module _ (p : Program) (at : ℕ) (nodes : List Core) (looks : (k : ℕ) → nod
 -- ---- a unit
 
 abbrev pub seen : Progress → Observation
-seen p = record { output = []; end = Some p.end; heap = 0; stack = 0; waiting = p.counters.deepest; moves = p.counters.work }
+seen p = record { output = []; end = Some p.end; heap = 0; waiting = p.counters.deepest; moves = p.counters.work }
 
 plain_gives : (unit : UnitCore) (kind : FormKind) (f : Option state.Procedure) (root : State → meant.Outcome) (s : State) → kind ≡ Plain → form_gives unit kind f root s ≡ root s
 plain_gives unit kind f root s e = ap (λ (x : FormKind). form_gives unit x f root s) e

@@ -10,10 +10,10 @@ use Rattle.m68020_step.specs.Storage.{with_long}
 use Rattle.m68020_step.specs.Operand.{next, with_pc}
 use Rattle.m68020_step.specs.Step.{State, executed, step_of, after}
 use Rattle.m68020_step.proofs.Executing.{IsAt, step_at}
-use Rattle.orbit_monitor.specs.declared.end.Exit.{Exit}
-use Rattle.orbit_monitor.specs.Services.{Exits, serve}
-use Rattle.orbit_monitor.specs.Run.{Progress, start_of, act, stepped, served, followed, run_from}
-use Rattle.orbit_monitor.proofs.Goes.{going_to, Goes, goes-on, goes-one, goes-both}
+use Rattle.machine_services.specs.declared.exit.Exit.{Exit}
+use Rattle.machine_services.specs.Services.{Exits, serve}
+use Rattle.machine_services.specs.Runs.{Progress, start_of, act, stepped, served, followed, run_from}
+use Rattle.machine_services.proofs.Goes.{going_to, Goes, goes-on, goes-one, goes-both}
 
 -- The address registers are the same throughout the first k instructions.
 abbrev pub Still : State → ℕ → Type 0

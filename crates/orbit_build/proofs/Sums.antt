@@ -21,8 +21,8 @@ use Rattle.m68020_step.specs.Operand.{next, data_at, with_data, with_flags, with
 use Rattle.m68020_step.specs.Step.{State, executed}
 use Rattle.m68020_step.proofs.Executing.{IsAt, past}
 use Rattle.m68020_step.proofs.Rows.{move_from_storage, add_registers, branch_by, move_quick_to, trap_by}
-use Rattle.orbit_monitor.specs.declared.end.Exit.TheVariants as exit
-use Rattle.orbit_monitor.specs.Services.{Exits, serve, raise_fault}
+use Rattle.machine_services.specs.declared.exit.Exit.TheVariants as exit
+use Rattle.machine_services.specs.Services.{Exits, serve, raise_fault}
 use Rattle.t_prim.specs.Operands.{in_range}
 use Rattle.orbit_build.proofs.Evaluation.{Outcome, Value, Faulted}
 use Rattle.orbit_build.specs.Sums.{most_open}

@@ -7,26 +7,27 @@ use Rattle.t_base.specs.declared.faults.Face.{Face}
 use Rattle.t_base.specs.declared.faults.Face.TheVariants as face
 use Rattle.program_runs.specs.Runs.{End, Shown, Fixnum, EmptyList, Observation, IsPrefix, IsProper}
 use Rattle.program_runs.specs.Runs as runs
-use Rattle.program_runs.specs.Keeps.{KeepsWithin}
-use Rattle.program_runs.proofs.Follow.{one_end}
+use Rattle.program_runs.specs.Keeps.{Room, KeepsWithin}
+use Rattle.program_runs.proofs.Follow.{one_end, steady_goes_on}
 use Rattle.program_runs.proofs.Prefixes.{prefix_of_eq}
 use Rattle.m68020_code.specs.declared.instr.Instr.TheVariants.{Trap}
 use Rattle.m68020_code.specs.Table.{spelling}
 use Rattle.m68020_step.specs.declared.registers.Registers.{Registers}
 use Rattle.m68020_step.specs.declared.machine.Sizes.{Sizes}
 use Rattle.m68020_step.specs.declared.storage.TheConstants.{HEAP_START}
-use Rattle.m68020_step.specs.Storage.{Regions}
 use Rattle.m68020_step.specs.Operand.{data_at, with_pc}
 use Rattle.m68020_step.specs.Step.{State}
 use Rattle.m68020_step.proofs.Executing.{IsAt}
 use Rattle.m68020_step.proofs.Rows.{trap_by}
-use Rattle.orbit_monitor.specs.declared.end.Exit.{Exit}
-use Rattle.orbit_monitor.specs.declared.end.Exit.TheVariants as exit
-use Rattle.orbit_monitor.specs.Faces.{face_of}
-use Rattle.orbit_monitor.specs.Services.{Exits, or_bad, serve}
-use Rattle.orbit_monitor.specs.Run.{start_of, run_from, run, booted}
-use Rattle.orbit_monitor.specs.Run as monitor
-use Rattle.orbit_monitor.specs.Observed.{shown_of, end_of, observation_of, observed}
+use Rattle.machine_services.specs.declared.exit.Exit.{Exit}
+use Rattle.machine_services.specs.declared.exit.Exit.TheVariants as exit
+use Rattle.word_faces.specs.Faces.{Reader, face_of, shown_of}
+use Rattle.machine_services.specs.Services.{Exits, or_bad, reader_of, serve}
+use Rattle.machine_services.specs.Runs.{start_of, run_from}
+use Rattle.machine_services.specs.Runs as monitor
+use Rattle.machine_services.specs.Observed.{end_of, observation_of}
+use Rattle.orbit_monitor.specs.Run.{run, booted}
+use Rattle.orbit_monitor.specs.Observed.{observed}
 use Rattle.orbit_monitor.proofs.Runs.{run-stays_by, observed-grows}
 use Rattle.t_core.specs.declared.forms.UnitCore.{UnitCore}
 use Rattle.t_meaning.specs.Programs.{Marking, all_escape}
@@ -36,7 +37,7 @@ use Rattle.orbit_build.specs.Sums.{most_open, Term, HasFixnums, AreTerms}
 use Rattle.orbit_build.proofs.Evaluation.{Outcome, Value, Faulted, Counters, Evaluation, whole, Progress, reached, counted, continued, whole_run, top, fresh}
 use Rattle.orbit_build.proofs.Meanings.{seen, meaning_whole}
 use Rattle.orbit_build.specs.Code.{empty_list, term_code, terms_code, unit_code, statics_bytes, image_of}
-use Rattle.orbit_build.specs.Faithful.{factor, frame_words, KeepsMeaning, NeverFull}
+use Rattle.orbit_build.specs.Faithful.{factor, room_of, KeepsMeaning, NeverFull}
 use Rattle.orbit_build.proofs.Words.{face_word}
 use Rattle.orbit_build.proofs.Runs.{Finishes, with_registers, finishes_one, finishes_on}
 use Rattle.orbit_build.proofs.Sums.{Fit, Ending}
@@ -52,7 +53,7 @@ AreSmall (t ∷ ts) = (HasFixnums t × (nesting t ≤ most_open)) × AreSmall ts
 -- the word is shown so
 record Shows (w : ℕ) (last : Shown) : Type 0 where
   it : Face
-  face_is : (m : Regions) → face_of m [] w ≡ Some it
+  face_is : (read : Reader) → face_of read [] w ≡ Some it
   shown : shown_of [] it ≡ last
 
 -- what comes of a unit, from s on, within six instructions for each evaluation and so many more
@@ -68,7 +69,7 @@ record UnitComes (s : State) (before more : ℕ) (p : Progress) : Type 0 where
 halts : (s : State) (front : List ℕ) (c : Counters) (last : Shown) → IsAt s front (spelling (Trap 0)) → Shows (data_at s.registers 0) last → UnitComes s c.work 1 (reached c (runs.Value last))
 halts s front c last at shows =
     let r : Registers = with_pc s.registers (s.registers.pc + length (spelling (Trap 0))) in
-    let service : serve [] (with_registers s r) 0 ≡ Exits (exit.Done shows.it) = ap (or_bad (λ (f : Face). Exits (exit.Done f))) (shows.face_is s.storage) in
+    let service : serve [] (with_registers s r) 0 ≡ Exits (exit.Done shows.it) = ap (or_bad (λ (f : Face). Exits (exit.Done f))) (shows.face_is (reader_of s.storage)) in
     let here = subst (λ l. IsAt s front l) (sym (append-nil (spelling (Trap 0)))) at in
     record {
       count = 1;
@@ -86,7 +87,7 @@ first_term s front rest c r more fit comes next = by_outcome r.outcome comes.cou
   where
     by_outcome : (o : Outcome) (k : ℕ) → k + 6 * (c.work + 1) ≤ 6 * r.counters.work → Ending s 0 front rest k o → UnitComes s c.work 1 (continued r.counters o more)
     by_outcome (Value v) k few e =
-        let shows : Shows (data_at e.state.registers 0) (Fixnum v) = record { it = face.Fix v; face_is = λ m. ap (face_of m []) e.value ∙ face_word m v e.fixnum; shown = refl } in
+        let shows : Shows (data_at e.state.registers 0) (Fixnum v) = record { it = face.Fix v; face_is = λ read. ap (face_of read []) e.value ∙ face_word read v e.fixnum; shown = refl } in
         let u = next e.state (Fixnum v) (fit_kept 0 s e.state fit e.kept) e.at shows in
         record { count = k + u.count; few = omega (arith, few, u.few); how = u.how; finishes = finishes_on s e.state k u.count u.how e.passes u.finishes; end_is = u.end_is; proper = u.proper }
     by_outcome (Faulted fault) k few e = record { count = k; few = omega (arith, few); how = exit.Fault fault; finishes = e; end_is = refl; proper = tt }
@@ -112,7 +113,7 @@ unit_comes : (ts : List Term) (sizes : Sizes) → AreSmall ts → length (unit_c
 unit_comes ts sizes h small =
     let s = booted (image_of ts) sizes in
     let l = loads s [] (terms_code ts ++ spelling (Trap 0)) empty_list (omega arith) (boot_fits ts sizes) (boot_is_at ts sizes small) in
-    let shows : Shows (data_at l.state.registers 0) EmptyList = record { it = face.Nil; face_is = λ m. ap (face_of m []) l.value; shown = refl } in
+    let shows : Shows (data_at l.state.registers 0) EmptyList = record { it = face.Nil; face_is = λ read. ap (face_of read []) l.value; shown = refl } in
     let u = terms_come ts fresh EmptyList l.state _ h (fit_kept 0 s l.state (boot_fits ts sizes) (l.kept 0)) l.at shows in
     record { count = 1 + u.count; few = omega (arith, u.few); how = u.how; finishes = finishes_on s l.state 1 u.count u.how l.passes u.finishes; end_is = u.end_is; proper = u.proper }
 
@@ -137,7 +138,7 @@ module _ (unit : UnitCore) (escapes : Marking) (ts : List Term) (are : AreTerms 
 
   -- where it has ended, it is as at the end
   end_of_run : (k : ℕ) (how : Exit) → (run (image_of ts) sizes k).end ≡ Some how → b k ≡ b comes.count
-  end_of_run k how e = ap (observation_of [] sizes) (⊎_elim
+  end_of_run k how e = ap (observation_of []) (⊎_elim
       (λ lt. sym (run-stays_by (image_of ts) sizes k comes.count how e (omega arith)))
       (λ ge. run-stays_by (image_of ts) sizes comes.count k comes.how (ap (λ (p : monitor.Progress). p.end) at_end) ge)
       (cases_lt k comes.count))
@@ -169,7 +170,7 @@ module _ (unit : UnitCore) (escapes : Marking) (ts : List Term) (are : AreTerms 
   quiet k = ⊎_elim
       (λ lt. quiet_to k (omega arith))
       (λ ge.
-      let e = ap (observation_of [] sizes) (run-stays_by (image_of ts) sizes comes.count k comes.how (ap (λ (p : monitor.Progress). p.end) at_end) ge) in
+      let e = ap (observation_of []) (run-stays_by (image_of ts) sizes comes.count k comes.how (ap (λ (p : monitor.Progress). p.end) at_end) ge) in
       let q = quiet_to comes.count (omega arith) in
       let x : Quiet k = record { output = ap (λ (o : Observation). o.output) e ∙ q.output; heap = ap (λ (o : Observation). o.heap) e ∙ q.heap } in x)
       (cases_lt k comes.count)
@@ -188,7 +189,7 @@ module _ (unit : UnitCore) (escapes : Marking) (ts : List Term) (are : AreTerms 
   meant_end = ap (λ (o : Observation). o.end) whole_meaning ∙ ap (λ (e : End). Some e) comes.end_is
 
   meant : (m : ℕ) (e : End) → (meaning unit escapes m).end ≡ Some e → meaning unit escapes m ≡ meaning unit escapes (top ts)
-  meant m e q = one_end (meaning unit escapes) (meaning_is_steady unit escapes) (top ts) m (end_of [] comes.how) e meant_end q
+  meant m e q = one_end (meaning unit escapes) (steady_goes_on _ (meaning_is_steady unit escapes)) (top ts) m (end_of [] comes.how) e meant_end q
 
   record Exited (k : ℕ) (e : End) : Type 0 where
     how : Exit
@@ -214,8 +215,8 @@ module _ (unit : UnitCore) (escapes : Marking) (ts : List Term) (are : AreTerms 
   pub proper_end : (k : ℕ) (e : End) → (b k).end ≡ Some e → IsProper e
   proper_end k e q = subst IsProper (the_end k e q) comes.proper
 
-  pub keeps_within : (frame : ℕ) → KeepsWithin frame factor (meaning unit escapes) (observed (image_of ts) sizes)
-  keeps_within frame = record {
+  pub keeps_within : (room : Room) → KeepsWithin room factor factor (meaning unit escapes) (observed (image_of ts) sizes)
+  keeps_within room = record {
     ends_only = λ k e q.
         inl (proper_end k e q, (top ts, record { ended = meant_end ∙ ap (λ (d : End). Some d) (the_end k e q); output = silent (top ts) ∙ sym (quiet k).output }));
     ends = λ m e q.
@@ -231,7 +232,7 @@ module _ (unit : UnitCore) (escapes : Marking) (ts : List Term) (are : AreTerms 
   }
 
 pub keeps_meaning : (unit : UnitCore) (ts : List Term) → AreTerms unit.forms.items ts → AreSmall ts → length (unit_code ts) ≤ 2 ^ 28 → KeepsMeaning unit (image_of ts)
-keeps_meaning unit ts are h small sizes heap stack = keeps_within unit all_escape ts are sizes h small (frame_words unit)
+keeps_meaning unit ts are h small sizes heap stack = keeps_within unit all_escape ts are sizes h small (room_of unit sizes)
 
 pub never_full : (unit : UnitCore) (ts : List Term) → AreTerms unit.forms.items ts → AreSmall ts → length (unit_code ts) ≤ 2 ^ 28 → NeverFull (image_of ts)
 never_full unit ts are h small sizes heap stack = proper_end unit all_escape ts are sizes h small

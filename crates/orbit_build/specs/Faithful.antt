@@ -1,6 +1,6 @@
 -- What a text is compiled to, and why a text is not compiled.
 use Rattle.std.specs.Prelude.{◌≡◌, ℕ, ◌+◌, ◌*◌, true, false, List, Some, Ok, Err}
-use Rattle.program_runs.specs.Keeps.{KeepsWithin}
+use Rattle.program_runs.specs.Keeps.{Room, KeepsWithin}
 use Rattle.program_runs.specs.Runs.{End, IsProper}
 use Rattle.t_base.specs.declared.basics.Span.{Span}
 use Rattle.t_reader.specs.Grammar.{Tree, Reads}
@@ -55,19 +55,20 @@ pub record IsBuilt (text : List ℕ) : Type 0 where
 
 -- ---- images
 
--- no frame has more words
-abbrev pub frame_words : UnitCore → ℕ
-frame_words unit = 8 + 2 * unit.shared.size
+-- the room of a run with these sizes; no frame has more words than 8 and two for each of the unit's size
+abbrev pub room_of : UnitCore → Sizes → Room
+room_of unit sizes = record { heap = sizes.heap; stack = sizes.stack; frame = 8 + 2 * unit.shared.size }
 
 -- so many instructions for each evaluation, and so many more
 abbrev pub factor : ℕ
 factor = 8
 
 -- For all sizes the image's run keeps the meaning, with every LAMBDA counted as escaping: ended runs and prefixes both ways, Full only
--- where more was asked than left and the unit's own cost is greater than the size, and no stop.
+-- where more was asked than left, and what was in use with what was asked is within the unit's own cost, which so is greater than the size;
+-- and no stop.
 abbrev pub KeepsMeaning : UnitCore → Parts → Type 0
 KeepsMeaning unit image =
-    (sizes : Sizes) → is_size sizes.heap ≡ true → is_size sizes.stack ≡ true → KeepsWithin (frame_words unit) factor (meaning_at_most unit) (observed image sizes)
+    (sizes : Sizes) → is_size sizes.heap ≡ true → is_size sizes.stack ≡ true → KeepsWithin (room_of unit sizes) factor factor (meaning_at_most unit) (observed image sizes)
 
 -- What is built uses neither heap nor stack: for all sizes the image's run ends by a value or a fault alone.
 abbrev pub NeverFull : Parts → Type 0

@@ -10,10 +10,10 @@ use Rattle.t_core.specs.declared.forms.UnitCore.{UnitCore}
 use Rattle.image_file.specs.Grammar.{Parts, IsImageOf}
 use Rattle.image_file.proofs.Laws.{one_image}
 use Rattle.orbit_build.specs.Faithful.{Faithful, NeverFull}
-use Rattle.orbit_monitor.specs.declared.end.Exit.{Exit}
-use Rattle.orbit_monitor.specs.declared.end.Exit.TheVariants as exit
+use Rattle.machine_services.specs.declared.exit.Exit.{Exit}
+use Rattle.machine_services.specs.declared.exit.Exit.TheVariants as exit
 use Rattle.orbit_monitor.specs.Run.{run}
-use Rattle.orbit_monitor.specs.Observed.{end_of}
+use Rattle.machine_services.specs.Observed.{end_of}
 use Rattle.orbit_monitor.specs.Answering.{Loaded}
 use Rattle.orbit_cli.specs.declared.prepare.Counts.{Counts}
 use Rattle.orbit_cli.specs.declared.words.Bounds.{Bounds}

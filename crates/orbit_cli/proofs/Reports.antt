@@ -6,12 +6,12 @@ use Rattle.t_ports.specs.declared.ports.Sink.{Ghosts as SinkOf}
 use Rattle.t_ports.specs.Causes.{Rose}
 use Rattle.t_ports.specs.Pieces.{TookFront}
 use Rattle.program_runs.specs.Runs.{IsPrefix}
-use Rattle.orbit_monitor.specs.declared.end.Exit.{Exit}
-use Rattle.orbit_monitor.specs.declared.end.Exit.TheVariants.{Done}
-use Rattle.orbit_monitor.specs.Observed.{shown_of}
-use Rattle.orbit_monitor.specs.Run.{Progress, act, followed, run_from}
+use Rattle.machine_services.specs.declared.exit.Exit.{Exit}
+use Rattle.machine_services.specs.declared.exit.Exit.TheVariants.{Done}
+use Rattle.word_faces.specs.Faces.{shown_of}
+use Rattle.machine_services.specs.Runs.{Progress, act, followed, run_from}
 use Rattle.orbit_monitor.specs.Answering.{Loaded, run_on, last_after, FailsAtPut}
-use Rattle.orbit_monitor.proofs.Runs.{run_from-next, run_from-add, run_from-grows, further-going}
+use Rattle.machine_services.proofs.Runs.{run_from-next, run_from-add, run_from-grows, further-going}
 use Rattle.orbit_cli.specs.declared.status.Status.{Status}
 use Rattle.orbit_cli.specs.declared.status.Status.TheVariants as status
 use Rattle.orbit_cli.specs.Lines.{shown_text, value_line}

@@ -6,9 +6,9 @@ use Rattle.t_core.specs.Counts.{form_count, weight_of}
 use Rattle.t_core.specs.Limits.{greatest}
 use Rattle.image_file.specs.Grammar.{Parts}
 use Rattle.orbit_tools.specs.Listing.{listing_of}
-use Rattle.orbit_monitor.specs.declared.end.Exit.{Exit}
-use Rattle.orbit_monitor.specs.declared.end.Exit.TheVariants as exit
-use Rattle.orbit_monitor.specs.Observed.{shown_of}
+use Rattle.machine_services.specs.declared.exit.Exit.{Exit}
+use Rattle.machine_services.specs.declared.exit.Exit.TheVariants as exit
+use Rattle.word_faces.specs.Faces.{shown_of}
 use Rattle.orbit_monitor.specs.Answering.{Loaded, fresh, run_on, last_after}
 use Rattle.orbit_cli.specs.declared.status.Status.{Status}
 use Rattle.orbit_cli.specs.declared.status.Status.TheVariants as status

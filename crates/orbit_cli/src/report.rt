@@ -4,7 +4,7 @@ ghost use Rattle.std.specs.Prelude.{◌≡◌, ◌<◌, [], get_or, OnOk, OnErr,
 ghost use Rattle.t_base.specs.declared.faults.Face.{Face};
 ghost use Rattle.t_ports.specs.Causes.{HasCause};
 ghost use Rattle.t_ports.specs.Pieces.{TookFront};
-ghost use Rattle.orbit_monitor.specs.Observed.{shown_of};
+ghost use Rattle.word_faces.specs.Faces.{shown_of};
 ghost use Rattle.orbit_monitor.specs.Answering.{FaceIsNamed};
 ghost use Rattle.orbit_cli.specs.Lines.{shown_text, value_line, counts_line, write_line};
 ghost use Rattle.orbit_cli.specs.Answer.{full_status, answer_on, printed};

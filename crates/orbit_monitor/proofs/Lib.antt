@@ -1,4 +1,3 @@
-pub mod Counts
-pub mod Goes
 pub mod Runs
 pub mod Turns
+pub mod Steps

@@ -4,14 +4,14 @@ use Rattle.m68020_step.specs.declared.machine.Step.TheVariants as step
 use Rattle.m68020_step.specs.declared.registers.Why.{Why}
 use Rattle.m68020_step.specs.Step.{State, step_of}
 use Rattle.t_base.specs.declared.faults.Face.{Face}
-use Rattle.orbit_monitor.specs.declared.end.Exit.{Exit}
-use Rattle.orbit_monitor.specs.declared.end.Exit.TheVariants as exit
+use Rattle.machine_services.specs.declared.exit.Exit.{Exit}
+use Rattle.machine_services.specs.declared.exit.Exit.TheVariants as exit
 use Rattle.orbit_monitor.specs.declared.services.Outcome.{Outcome}
-use Rattle.orbit_monitor.specs.Services.{Served, Puts, Exits, Bad, or_bad, serve}
-use Rattle.orbit_monitor.specs.Run.{Progress, act, served, stepped, followed}
+use Rattle.machine_services.specs.Services.{Served, Puts, Exits, Bad, or_bad, serve}
+use Rattle.machine_services.specs.Runs.{Progress, act, served, stepped, followed}
 use Rattle.orbit_monitor.specs.Answering.{Loaded, run_on, last_after, after, FailsAtPut}
 use Rattle.orbit_monitor.specs.Turn.{outcome_of, put_of, or_else, settled, FailsIn, FailsInTurn}
-use Rattle.orbit_monitor.proofs.Runs.{run_from-next, further-going, run_from-add, run_from-ended}
+use Rattle.machine_services.proofs.Runs.{run_from-next, further-going, run_from-add, run_from-ended}
 
 -- the last byte of some bytes
 last-cons : (x : ℕ) (bytes : List ℕ) → last_after (Some x) bytes ≡ slice_get (x ∷ bytes) (length bytes)

@@ -5,11 +5,12 @@ use Rattle.t_base.specs.declared.faults.Face.TheVariants as face
 use Rattle.image_file.specs.Grammar.{Parts}
 use Rattle.m68020_step.specs.declared.machine.Sizes.{Sizes}
 use Rattle.m68020_step.specs.Step.{State}
-use Rattle.orbit_monitor.specs.declared.end.Exit.{Exit}
-use Rattle.orbit_monitor.specs.declared.end.Exit.TheVariants as exit
+use Rattle.machine_services.specs.declared.exit.Exit.{Exit}
+use Rattle.machine_services.specs.declared.exit.Exit.TheVariants as exit
 use Rattle.orbit_monitor.specs.declared.end.End.{End}
 use Rattle.orbit_monitor.specs.declared.end.End.TheVariants as answer
-use Rattle.orbit_monitor.specs.Run.{Progress, act, run_from, booted}
+use Rattle.machine_services.specs.Runs.{Progress, act, run_from}
+use Rattle.orbit_monitor.specs.Run.{booted}
 
 -- the names of the image, the machine, how the program ended, if it has, and the last byte that a service put
 pub record Loaded : Type 0 where

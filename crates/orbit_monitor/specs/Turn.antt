@@ -1,11 +1,11 @@
 -- What a service and an instruction come to, as the monitor sees it.
 use Rattle.std.specs.Prelude.{◌≡◌, ℕ, List, [], ◌++◌, Option, Some, None}
 use Rattle.m68020_step.specs.declared.registers.Why.TheVariants.{BadService}
-use Rattle.orbit_monitor.specs.declared.end.Exit.TheVariants as exit
+use Rattle.machine_services.specs.declared.exit.Exit.TheVariants as exit
 use Rattle.orbit_monitor.specs.declared.services.Outcome.{Outcome}
 use Rattle.orbit_monitor.specs.declared.services.Outcome.TheVariants as outcome
-use Rattle.orbit_monitor.specs.Services.{Served, Puts, Exits, Bad}
-use Rattle.orbit_monitor.specs.Run.{act}
+use Rattle.machine_services.specs.Services.{Served, Puts, Exits, Bad}
+use Rattle.machine_services.specs.Runs.{act}
 use Rattle.orbit_monitor.specs.Answering.{Loaded, last_after, after, IsNamed}
 
 -- of what was put only the last byte is kept

@@ -1,7 +1,8 @@
 //! What a word stands for: its face, over storage and the names of the image.
 
 ghost use Rattle.std.specs.Prelude.{◌≡◌, ◌<◌, ◌≤◌, ◌+◌, length, option_map, IfSome};
-ghost use Rattle.orbit_monitor.specs.Faces.{data_at, word_in, fixnum_of, count_of, character_of, immediate_face, kind_of, name_at, symbol_face, object_face, extended_face, face_of};
+ghost use Rattle.word_faces.specs.Faces.{word_in, fixnum_of, count_of, character_of, immediate_face, kind_of, name_at, symbol_face, object_face, extended_face, face_of};
+ghost use Rattle.machine_services.specs.Services.{reader_of};
 ghost use Rattle.orbit_monitor.specs.Answering.{FaceIsNamed};
 
 use m68020_step::Machine;
@@ -11,7 +12,7 @@ use t_base::{Face, Name, Names};
 /// The bytes from an address on, where they lie whole in static, heap or stack.
 pub fn data(machine: &Machine, at: u32, len: u32) -> Option<&[u8]>
     requires { 0 < len }
-    ensures exact { option_map (λ x. x.now) result ≡ data_at machine.now.storage at len }
+    ensures exact { option_map (λ x. x.now) result ≡ reader_of machine.now.storage at len }
     ensures whole { IfSome result (λ x. length x.now ≡ len) }
 {
     if at < STATICS_START {
@@ -109,7 +110,7 @@ fn name(names: &Names, place: u32) -> Option<Name>
 }
 
 fn symbol(machine: &Machine, names: &Names, at: u32) -> Option<Face>
-    ensures exact { result ≡ symbol_face machine.now.storage names.now at }
+    ensures exact { result ≡ symbol_face (reader_of machine.now.storage) names.now at }
     ensures named { IfSome result (FaceIsNamed names.now) }
 {
     let bytes = data(machine, at, 8)?;
@@ -119,7 +120,7 @@ fn symbol(machine: &Machine, names: &Names, at: u32) -> Option<Face>
 }
 
 fn extended(machine: &Machine, names: &Names, at: u32) -> Option<Face>
-    ensures exact { result ≡ extended_face machine.now.storage names.now at }
+    ensures exact { result ≡ extended_face (reader_of machine.now.storage) names.now at }
     ensures named { IfSome result (FaceIsNamed names.now) }
 {
     let bytes = data(machine, at, 4)?;
@@ -135,7 +136,7 @@ fn extended(machine: &Machine, names: &Names, at: u32) -> Option<Face>
 
 /// The face of a word. Nothing else has one: Unbound, a cell, an object that lies in code, a header that is no object's.
 pub fn face(machine: &Machine, names: &Names, word: u32) -> Option<Face>
-    ensures exact { result ≡ face_of machine.now.storage names.now word }
+    ensures exact { result ≡ face_of (reader_of machine.now.storage) names.now word }
     ensures named { IfSome result (FaceIsNamed names.now) }
 {
     match word % 4 {

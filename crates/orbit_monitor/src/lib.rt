@@ -8,6 +8,7 @@ mod load;
 mod monitor;
 mod services;
 
-pub use end::{End, Exit};
+pub use end::End;
 pub use load::boot;
+pub use machine_services::Exit;
 pub use monitor::{Boot, run};

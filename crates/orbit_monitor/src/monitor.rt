@@ -2,13 +2,14 @@
 
 ghost use Rattle.std.specs.Prelude.{◌≡◌, ◌<◌, ◌≤◌, length, None, Some, slice_get, IfOk, OnOk, OnErr, IfSome};
 ghost use Rattle.t_ports.specs.Causes.{HasCause, Rose};
-ghost use Rattle.orbit_monitor.specs.Run.{act};
+ghost use Rattle.machine_services.specs.Runs.{act};
 ghost use Rattle.orbit_monitor.specs.Answering.{run_on, after, exit_of, IsNamed, AnswerIsNamed, IfSink, IfRan, FailsAtPut};
 ghost use Rattle.orbit_monitor.specs.Turn.{OutcomeIsNamed, settled, FailsInTurn};
 
-use crate::end::{End, Exit};
+use crate::end::End;
 use crate::services::{Outcome, serve};
 use m68020_step::{Machine, Step, Why};
+use machine_services::Exit;
 use std::marker::Model;
 use t_base::{Name, Names};
 use t_ports::ports::{Failed, Sink};

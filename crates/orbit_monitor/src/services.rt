@@ -2,13 +2,14 @@
 
 ghost use Rattle.std.specs.Prelude.{◌≡◌, ◌≤◌, length, slice_index, option_map, IfOk, OnOk, OnErr};
 ghost use Rattle.t_ports.specs.Causes.{HasCause};
-ghost use Rattle.orbit_monitor.specs.Services.{Served, Puts, halt, put_character, put_fixnum, fault_of, raise_fault, report_full, text_at, string_at, string_of, put_string, serve};
+ghost use Rattle.word_faces.specs.Operands.{fault_of, text_at, string_at, string_of};
+ghost use Rattle.machine_services.specs.Services.{Served, Puts, halt, put_character, put_fixnum, raise_fault, report_full, put_string, service, reader_of, serve};
 ghost use Rattle.orbit_monitor.specs.Turn.{outcome_of, put_of, FailsIn, OutcomeIsNamed};
 
-use crate::end::Exit;
 use crate::faces::{character, count, data, face, fixnum, word_in};
 use itoa::Buffer;
 use m68020_step::Machine;
+use machine_services::Exit;
 use t_base::{Fault, Names};
 use t_ports::ports::{Failed, Sink};
 
@@ -34,7 +35,7 @@ fn put<S: Sink>(bytes: &[u8], out: &mut S) -> Result<Outcome, Failed>
 }
 
 fn halt(machine: &Machine, names: &Names) -> Outcome
-    ensures exact { result ≡ outcome_of (halt machine.now.storage names.now (slice_index machine.now.registers.d 0)) }
+    ensures exact { result ≡ outcome_of (halt (reader_of machine.now.storage) names.now (slice_index machine.now.registers.d 0)) }
     ensures named { OutcomeIsNamed names.now result }
 {
     match face(machine, names, machine.d(0)) {
@@ -123,7 +124,7 @@ fn report_full(machine: &Machine) -> Outcome
 
 /// The bytes of the string at an address.
 fn string_at(machine: &Machine, at: u32) -> Option<&[u8]>
-    ensures { option_map (λ x. x.now) result ≡ string_at machine.now.storage at }
+    ensures { option_map (λ x. x.now) result ≡ string_at (reader_of machine.now.storage) at }
 {
     let head = data(machine, at, 8)?;
     if word_in(head, 0) != 0x15 {
@@ -135,7 +136,7 @@ fn string_at(machine: &Machine, at: u32) -> Option<&[u8]>
 }
 
 fn string(machine: &Machine, word: u32) -> Option<&[u8]>
-    ensures { option_map (λ x. x.now) result ≡ string_of machine.now.storage word }
+    ensures { option_map (λ x. x.now) result ≡ string_of (reader_of machine.now.storage) word }
 {
     if word % 4 == 2 {
         string_at(machine, word - 2)
@@ -145,9 +146,9 @@ fn string(machine: &Machine, word: u32) -> Option<&[u8]>
 }
 
 fn put_string<S: Sink>(machine: &Machine, out: &mut S) -> Result<Outcome, Failed>
-    ensures outcome { IfOk result (λ o. o ≡ outcome_of (put_string machine.now.storage (slice_index machine.now.registers.d 0))) }
-    ensures took { OnOk result (S.took out.old (put_of (put_string machine.now.storage (slice_index machine.now.registers.d 0))) out.new) }
-    ensures part { OnErr result (FailsIn S.took (put_string machine.now.storage (slice_index machine.now.registers.d 0)) out.old out.new) }
+    ensures outcome { IfOk result (λ o. o ≡ outcome_of (put_string (reader_of machine.now.storage) (slice_index machine.now.registers.d 0))) }
+    ensures took { OnOk result (S.took out.old (put_of (put_string (reader_of machine.now.storage) (slice_index machine.now.registers.d 0))) out.new) }
+    ensures part { OnErr result (FailsIn S.took (put_string (reader_of machine.now.storage) (slice_index machine.now.registers.d 0)) out.old out.new) }
     ensures cause { HasCause (S.faults out.old) (S.faults out.new) result }
 {
     match string(machine, machine.d(0)) {

@@ -1,7 +1,9 @@
--- What escapes in each unit. A LAMBDA is named by its form and its node there.
+-- What escapes in each unit or inventory. A LAMBDA is named by its form and its node there.
 use Rattle.std.specs.Prelude.{◌≡◌, ℕ, List}
 use Rattle.t_core.specs.declared.forms.UnitCore.{UnitCore}
-use Rattle.t_meaning.specs.EscapeRules.{Subject, Lambda, Local}
+use Rattle.escape_marks.specs.Subjects.{Subject, Lambda, Local}
+use Rattle.escape_marks.specs.Rules.{marks_of}
+use Rattle.escape_marks.specs.Inventories.{Inventory, facts_from}
 use Rattle.t_meaning.specs.EscapeFacts.{Tree, trees_of}
 use Rattle.t_meaning.specs.Escape.{escaping}
 use Rattle.rows_escape.specs.Units.{var}
@@ -15,3 +17,7 @@ lambda form node = Lambda form node
 
 abbrev pub variable : ℕ → Subject
 variable n = Local (var n)
+
+-- this much escapes in every program with the inventory
+abbrev pub EscapeIn : Inventory → List Subject → Type 0
+EscapeIn program subjects = marks_of (facts_from program) ≡ subjects

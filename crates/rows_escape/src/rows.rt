@@ -1,6 +1,7 @@
 //! A clause for each unit says what escapes in it. `specs/Units.antt` has the units with their texts.
-ghost use Rattle.std.specs.Prelude.{[], ◌∷◌};
-ghost use Rattle.rows_escape.specs.Rows.{Escape, lambda, variable};
+ghost use Rattle.std.specs.Prelude.{true, false, [], ◌∷◌};
+ghost use Rattle.rows_escape.specs.Inventories.{passed_by_name};
+ghost use Rattle.rows_escape.specs.Rows.{Escape, EscapeIn, lambda, variable};
 ghost use Rattle.rows_escape.specs.Units.{passed_down, passed_with_free_variable, called_in_a_loop, escape_in_a_lambda, passed_by_a_tail_call, reached_by_a_known_name, operand_of_a_lambda, reached_by_a_method, name_passed, past_the_parameters, assigned_name};
 
 /// No LAMBDA of these units escapes. `down`: it is passed to a procedure that only calls it and passes it on to itself. `free`: so is
@@ -25,4 +26,11 @@ pub fn where_lambdas_escape()
     ensures name { Escape name_passed (lambda 1 1 ∷ variable 2 ∷ variable 1 ∷ variable 4 ∷ []) }
     ensures past { Escape past_the_parameters (lambda 1 2 ∷ []) }
     ensures assigned { Escape assigned_name (lambda 0 1 ∷ variable 0 ∷ []) }
+{}
+
+/// The same by an inventory whose LAMBDAs are numbered. `kept`: a LAMBDA is passed by its name to a procedure that only calls it and
+/// passes it on to itself. `tail`: it is passed so by a tail call, and escapes with its name.
+pub fn where_lambdas_are_numbered()
+    ensures kept { EscapeIn (passed_by_name false) (variable 1 ∷ variable 2 ∷ []) }
+    ensures tail { EscapeIn (passed_by_name true) (lambda 0 1 ∷ variable 1 ∷ variable 2 ∷ variable 3 ∷ []) }
 {}

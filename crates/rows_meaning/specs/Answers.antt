@@ -16,7 +16,7 @@ abbrev pub cost : ℕ → ℕ → ℕ → Cost
 cost heap depth work = record { heap = heap; depth = depth; work = work }
 
 abbrev pub seen : List ℕ → Option End → Cost → Observation
-seen output end c = record { output = output; end = end; heap = c.heap; stack = 0; waiting = c.depth; moves = c.work }
+seen output end c = record { output = output; end = end; heap = c.heap; waiting = c.depth; moves = c.work }
 
 -- at the bound the unit has ended, with this output, end and cost, where every LAMBDA counts as escaping
 abbrev pub Ends : (Global → UnitCore) → ℕ → List ℕ → End → Cost → Type 0

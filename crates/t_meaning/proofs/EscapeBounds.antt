@@ -13,7 +13,8 @@ use Rattle.t_core.specs.declared.forms.Method.{Method}
 use Rattle.t_core.specs.declared.forms.UnitCore.{UnitCore}
 use Rattle.t_core.specs.Nodes.{binders_of}
 use Rattle.t_core.specs.Counts.{Pairs, node_count, method_nodes, definition_count, form_count}
-use Rattle.t_meaning.specs.EscapeRules.{Subject, Local, Abstraction}
+use Rattle.escape_marks.specs.Subjects.{Subject, Local}
+use Rattle.escape_marks.specs.Facts.{Abstraction}
 use Rattle.t_meaning.specs.EscapeFacts.{Tree, tree_of, trees_of, abstraction_of, abstractions_in, defined_procedure, names_in, in_forms}
 use Rattle.t_meaning.specs.Escape.{node_total, facts_of_unit}
 

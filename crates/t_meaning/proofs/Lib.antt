@@ -1,8 +1,5 @@
-pub mod EscapeRounds
-pub mod EscapeMonotone
 pub mod EscapeBounds
 pub mod EscapeLaws
-pub mod EscapeCalled
 pub mod BoundLemmas
 pub mod BoundTasks
 pub mod CostLemmas

@@ -1,5 +1,5 @@
 -- Where the LAMBDAs and names of a unit stand, and what is free in them.
-use Rattle.std.specs.Prelude.{ℕ, zero, suc, ◌+◌, Bool, true, false, not, ◌==◌, List, [], ◌∷◌, ◌++◌, map, length, zip, filter, filter_map, Option, Some, None, slice_get, option_map, option_and_then, if◌then◌else◌}
+use Rattle.std.specs.Prelude.{ℕ, zero, suc, ◌+◌, Bool, false, not, ◌==◌, List, [], ◌∷◌, ◌++◌, map, length, zip, filter, filter_map, Option, Some, None, slice_get, option_map, option_and_then}
 use Rattle.std.specs.List.{flat_map, list_any, enumerate_from}
 use Rattle.std.specs.Option.{option_map_or}
 use Rattle.t_base.specs.declared.basics.Var.{Var}
@@ -10,7 +10,9 @@ use Rattle.t_core.specs.declared.forms.FormKind.TheVariants.{Define, Lset, Opera
 use Rattle.t_core.specs.declared.forms.Form.{Form}
 use Rattle.t_core.specs.declared.forms.UnitCore.{UnitCore}
 use Rattle.t_core.specs.Nodes.{parts_of, places_of, binders_of}
-use Rattle.t_meaning.specs.EscapeRules.{Subject, Lambda, Local, Global, is_same, Role, Operator, Operand, ValueOf, Assigned, Other, Occurrence, Abstraction, Known, Facts, stands_as, reached_from}
+use Rattle.escape_marks.specs.Subjects.{Subject, Lambda, Local, Global}
+use Rattle.escape_marks.specs.Facts.{Role, Operator, Operand, ValueOf, Assigned, Other, Occurrence, Abstraction, Facts}
+use Rattle.escape_marks.specs.Inventories.{Inventory, facts_from}
 
 -- a form: what it defines, its nodes, and the place of its root
 pub record Tree : Type 0 where
@@ -114,19 +116,6 @@ method_frees nodes node = []
 
 -- ---- names
 
-abbrev pub is_assignment : Role → Bool
-is_assignment Assigned = true
-is_assignment _ = false
-
--- the LAMBDA s in that role: under the name that it is bound to, if that is never assigned
-abbrev pub known_by : List Occurrence → List Abstraction → Subject → Role → List Known
-known_by occurrences abstractions s (ValueOf name) =
-    if stands_as occurrences is_assignment name then [] else map (λ a. record { name = name; abstraction = a }) (filter (λ a. is_same s a.lambda) abstractions)
-known_by occurrences abstractions s _ = []
-
-abbrev pub known_names : List Occurrence → List Abstraction → List Known
-known_names occurrences abstractions = flat_map (λ o. known_by occurrences abstractions o.subject o.role) occurrences
-
 -- the parameters that a node binds
 abbrev pub params_of : Core → List Var
 params_of (Node.Lambda params body) = params
@@ -151,19 +140,16 @@ in_forms f trees = flat_map (λ at. f at.0 at.1) (enumerate_from 0 trees)
 abbrev pub in_nodes : {X : Type 0} → (List Core → Core → List X) → List Tree → List X
 in_nodes f trees = flat_map (λ tree. flat_map (f tree.nodes) tree.nodes) trees
 
+-- what a unit of these forms says of its LAMBDAs and names
+abbrev pub inventory_of : List Tree → Inventory
+inventory_of trees = record {
+  abstractions = in_forms abstractions_in trees;
+  names = flat_map names_in trees;
+  params = in_nodes (λ nodes. params_of) trees;
+  occurrences = in_forms occurrences_in trees;
+  method_frees = in_nodes method_frees trees;
+}
+
 -- what the rules look at, of a unit of these forms
 abbrev pub facts_of : List Tree → Facts
-facts_of trees =
-    let abstractions = in_forms abstractions_in trees in
-    let names = flat_map names_in trees in
-    let occurrences = in_forms occurrences_in trees in
-    let known = known_names occurrences abstractions in
-    let reached = reached_from known names in
-    record {
-      subjects = map (λ a. a.lambda) abstractions ++ names;
-      params = map Local (in_nodes (λ nodes. params_of) trees);
-      occurrences = occurrences;
-      known = known;
-      lambdas = map (λ a. record { lambda = a.lambda; reached = reached a.free }) abstractions;
-      methods = map reached (in_nodes method_frees trees);
-    }
+facts_of trees = facts_from (inventory_of trees)

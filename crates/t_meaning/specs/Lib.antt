@@ -1,4 +1,3 @@
-pub mod EscapeRules
 pub mod EscapeFacts
 pub mod Escape
 pub mod Programs

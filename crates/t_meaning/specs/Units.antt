@@ -80,7 +80,7 @@ abbrev pub outcome : Program → ℕ → Outcome
 outcome p n = run_forms p n 0 p.unit.forms.items (start p.unit) NilV
 
 abbrev pub seen_at : Option End → State → Observation
-seen_at end s = record { output = s.store.output; end = end; heap = s.store.heap; stack = 0; waiting = s.deepest; moves = s.work }
+seen_at end s = record { output = s.store.output; end = end; heap = s.store.heap; waiting = s.deepest; moves = s.work }
 
 -- an escape never leaves a unit, since it is taken only while its CATCH is evaluated
 abbrev pub observed : Outcome → Observation

@@ -1,7 +1,7 @@
 use Rattle.std.proofs.Common.{refl}
 use Rattle.t_core.specs.Counts.{nodes_within, datum_nodes}
 use Rattle.t_meaning.specs.EscapeFacts.{free_within}
-use Rattle.t_meaning.specs.EscapeRules.{repeated}
+use Rattle.escape_marks.specs.Rounds.{repeated}
 use Rattle.rows_meaning.proofs.heap_words_by_marks.Goals as goal
 
 pub returns-clause-each_of_list : goal.returns-clause-each_of_list

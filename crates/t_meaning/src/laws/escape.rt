@@ -1,6 +1,6 @@
 //! Laws of the escape marks of a unit: which of its LAMBDAs and names escape.
 
-ghost use Rattle.t_meaning.specs.Escape.{EscapingIsClosed, EscapingIsLeast, ReachIsClosed, ReachIsLeast, CalledNamesStay, CalledLambdasStay};
+ghost use Rattle.t_meaning.specs.Escape.{EscapingIsClosed, EscapingIsLeast, CalledNamesStay, CalledLambdasStay};
 
 /// The marks of a unit are closed under each of the four rules: as many rounds as the unit has nodes are enough.
 pub fn marks_are_closed()
@@ -10,13 +10,6 @@ pub fn marks_are_closed()
 /// What is marked is marked by every marking that is closed under the four rules.
 pub fn marks_are_least()
     ensures { EscapingIsLeast }
-{}
-
-/// What a LAMBDA or a method reaches is the least that has what is free in it, and what is free in the LAMBDA of each known name
-/// that it has.
-pub fn reach_is_least()
-    ensures closed { ReachIsClosed }
-    ensures least { ReachIsLeast }
 {}
 
 /// A name that is no parameter and is only called isn't marked, nor is a LAMBDA that stands only as operator or as the value of such

@@ -1,6 +1,6 @@
 use Rattle.std.proofs.Common.{None, Some, refl, ap, inr}
-use Rattle.orbit_monitor.specs.declared.end.Exit.TheVariants.{Stop}
-use Rattle.orbit_monitor.specs.Observed.{shown_of}
+use Rattle.machine_services.specs.declared.exit.Exit.TheVariants.{Stop}
+use Rattle.word_faces.specs.Faces.{shown_of}
 use Rattle.orbit_monitor.specs.Answering.{Loaded}
 use Rattle.orbit_cli.specs.declared.status.Status.TheVariants as status
 use Rattle.orbit_cli.specs.Lines.{shown_text, value_line}

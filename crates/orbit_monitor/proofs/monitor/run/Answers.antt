@@ -1,7 +1,7 @@
 use Rattle.std.proofs.Common.{◌+◌, ◌≤◌, ap, sym, ◌∙◌, subst, arith}
 use Rattle.orbit_monitor.specs.declared.end.End.{End}
 use Rattle.orbit_monitor.specs.declared.end.End.TheVariants as answer
-use Rattle.orbit_monitor.specs.Run.{Progress}
+use Rattle.machine_services.specs.Runs.{Progress}
 use Rattle.orbit_monitor.specs.Answering.{Loaded, after, IfRan}
 use Rattle.orbit_monitor.proofs.Turns.{run_on-ended, goes_further, Ends, ends_here, fails_here}
 use Rattle.orbit_monitor.proofs.monitor.run.Goals as goal

@@ -1,5 +1,5 @@
 use Rattle.std.proofs.Common.{◌≡◌, List, ℕ, ap, sym, ◌∙◌, subst}
-use Rattle.orbit_monitor.specs.Run.{act}
+use Rattle.machine_services.specs.Runs.{act}
 use Rattle.orbit_monitor.specs.Answering.{Loaded, after}
 use Rattle.orbit_monitor.proofs.Turns.{act-output, turn-service}
 use Rattle.orbit_monitor.proofs.monitor.turn.Goals as goal

@@ -4,7 +4,7 @@ use Rattle.std.proofs.lemmas.List.{take-append-drop}
 use Rattle.orbit_monitor.specs.declared.services.Outcome.{Outcome}
 use Rattle.orbit_monitor.specs.declared.services.Outcome.TheVariants as outcome
 use Rattle.orbit_monitor.specs.Turn.{FailsIn}
-use Rattle.orbit_monitor.specs.Services.{Puts}
+use Rattle.machine_services.specs.Services.{Puts}
 use Rattle.orbit_monitor.proofs.Turns.{last_after-none}
 use Rattle.orbit_monitor.proofs.services.put.Goals as goal
 

@@ -1,5 +1,5 @@
 use Rattle.std.proofs.Common.{refl, lit≤}
-use Rattle.t_meaning.specs.EscapeRules.{repeated}
+use Rattle.escape_marks.specs.Rounds.{repeated}
 use Rattle.t_meaning.specs.EscapeFacts.{free_within}
 use Rattle.rows_escape.specs.Units as units
 use Rattle.rows_escape.proofs.Rounds.{from_round}

@@ -1,4 +1,4 @@
-use Rattle.t_meaning.proofs.EscapeCalled.{called_names_stay, called_lambdas_stay}
+use Rattle.t_meaning.proofs.EscapeLaws.{called_names_stay, called_lambdas_stay}
 use Rattle.t_meaning.proofs.laws.escape.what_is_only_called_stays.Goals as goal
 
 pub returns-clause-names : goal.returns-clause-names

@@ -1,0 +1,4 @@
+pub mod Runs
+pub mod Goes
+pub mod Services
+pub mod Steps
