@@ -22,7 +22,7 @@ use Rattle.t_meaning.specs.Outcomes.{Context, Evaluate, after_row}
 use Rattle.t_meaning.specs.Operations.{lambda_of}
 use Rattle.t_meaning.specs.Expressions.{evaluate}
 use Rattle.t_meaning.specs.Performing.{perform}
-use Rattle.t_meaning.specs.Units.{bare_state, with_definition, with_definitions, form_gives, run_forms, observed, meaning}
+use Rattle.t_meaning.specs.Units.{start, form_gives, run_forms, observed, meaning}
 use Rattle.orbit_build.specs.Sums.{Term, Literal, Sum, IsTerm, AreTerms}
 use Rattle.orbit_build.proofs.Evaluation.{Outcome, Value, Faulted, Counters, Evaluation, entered, gives, passed, with_value, sum_of, whole, height, Progress, counted, continued, whole_run, top, fresh}
 
@@ -98,13 +98,13 @@ module _ (p : Program) where
       by_outcome (Faulted fault) = rw (o, w) refl
 
   forms_seen : (ts : List Term) (forms : List Form) (n at : ℕ) (q : Counters) (v : Val) (last : Shown) → AreTerms forms ts → ((k : ℕ) → slice_get p.unit.forms.items (at + k) ≡ slice_get forms k)
-      → shown_of (bare_state p.unit).store v ≡ last → top ts ≤ n → observed (run_forms p n at forms (counting (bare_state p.unit) q) v) ≡ seen (whole_run ts q last)
+      → shown_of (start p.unit).store v ≡ last → top ts ≤ n → observed (run_forms p n at forms (counting (start p.unit) q) v) ≡ seen (whole_run ts q last)
   unfolding whole_run top
   forms_seen [] [] n at q v last h there shown le = rw shown refl
   forms_seen [] (form ∷ forms) n at q v last h there shown le = absurd h
   forms_seen (t ∷ ts) [] n at q v last h there shown le = absurd h
   forms_seen (t ∷ ts) (form ∷ forms) n at q v last h there shown le =
-      let s = bare_state p.unit in
+      let s = start p.unit in
       let lt : height t ≤ n = le_trans (le-max_left (height t) (top ts)) le in
       let lts : top ts ≤ n = le_trans (le-max_right (height t) (top ts)) le in
       let here : slice_get p.unit.forms.items at ≡ Some form = subst (λ (k : ℕ). slice_get p.unit.forms.items k ≡ Some form) (let i : at + 0 ≡ at = omega arith in i) (there 0) in
@@ -116,19 +116,8 @@ module _ (p : Program) where
       ∙ ap (λ (o : meant.Outcome). observed (meant.with_value o rest)) (performs p at form.nodes.items looks t n 1 form.root s (counted q) h.0.1.is lt)
       ∙ continued_seen s (whole 1 t (counted q)) rest _ (λ u x. forms_seen ts forms n (suc at) u (FixV x) (Fixnum x) h.1 behind refl lts) refl refl
 
-no_definition : (kind : FormKind) (f : Option state.Procedure) (s : State) → kind ≡ Plain → with_definition kind f s ≡ s
-no_definition kind f s e = ap (λ (x : FormKind). with_definition x f s) e
-
-no_definitions : (ts : List Term) (forms : List Form) (at : ℕ) (s : State) → AreTerms forms ts → with_definitions at forms s ≡ s
-no_definitions [] [] at s h = refl
-no_definitions [] (form ∷ forms) at s h = absurd h
-no_definitions (t ∷ ts) [] at s h = absurd h
-no_definitions (t ∷ ts) (form ∷ forms) at s h =
-    ap (λ (u : State). with_definitions (suc at) forms u) (no_definition form.kind (lambda_of at form) s h.0.0) ∙ no_definitions ts forms (suc at) s h.1
-
 -- The meaning of the unit, at every bound that is large enough, whichever LAMBDAs escape.
 pub meaning_whole : (unit : UnitCore) (escapes : Marking) (ts : List Term) (n : ℕ) → AreTerms unit.forms.items ts → top ts ≤ n → meaning unit escapes n ≡ seen (whole_run ts fresh EmptyList)
 meaning_whole unit escapes ts n h le =
     let p : Program = record { unit = unit; escapes = escapes } in
-    ap (λ (s : State). observed (run_forms p n 0 unit.forms.items s NilV)) (no_definitions ts unit.forms.items 0 (bare_state unit) h)
-    ∙ forms_seen p ts unit.forms.items n 0 fresh NilV EmptyList h (λ k. ap (λ (i : ℕ). slice_get unit.forms.items i) (let i : 0 + k ≡ k = omega arith in i)) refl le
+    forms_seen p ts unit.forms.items n 0 fresh NilV EmptyList h (λ k. ap (λ (i : ℕ). slice_get unit.forms.items i) (let i : 0 + k ≡ k = omega arith in i)) refl le

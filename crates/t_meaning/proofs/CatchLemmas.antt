@@ -1,7 +1,7 @@
 -- An escape stays inside its CATCH: one lemma for each way of going on.
 use Rattle.std.specs.Prelude.{◌==◌, IsTrue}
 use Rattle.std.specs.List.{list_any}
-use Rattle.std.proofs.Common.{◌≡◌, ℕ, zero, suc, List, [], ◌∷◌, length, replicate, Option, Some, None, Bool, true, false, ◌||◌, slice_get, refl, sym, ap, ◌∙◌, subst}
+use Rattle.std.proofs.Common.{◌≡◌, ℕ, zero, suc, List, [], ◌∷◌, length, replicate, Option, Some, None, Bool, true, false, ◌||◌, slice_get, refl, sym, ap, subst}
 use Rattle.t_base.specs.declared.faults.Fault.{Fault}
 use Rattle.t_base.specs.declared.faults.Fault.TheVariants.{WrongCount, DeadEscape}
 use Rattle.t_core.specs.declared.forms.Core.{Core}
@@ -25,7 +25,7 @@ use Rattle.t_meaning.specs.Operations.{handlers_at, looked_at, chosen, default_o
 use Rattle.t_meaning.specs.Application.{enter, apply}
 use Rattle.t_meaning.specs.Expressions.{with_global, in_order, evaluate}
 use Rattle.t_meaning.specs.Performing.{act, perform}
-use Rattle.t_meaning.specs.Units.{name_of_global, form_gives, with_definition, with_definitions, bare_state, run_forms, start, outcome, observed}
+use Rattle.t_meaning.specs.Units.{name_of_global, form_gives, run_forms, start, outcome, observed}
 use Rattle.t_meaning.specs.CatchLaws.{StaysInside, TasksStayInside, UnitStaysInside, EndsAreProper}
 
 -- from every state with these live catches
@@ -186,19 +186,8 @@ module _ (p : Program) (live : List ℕ) where
   forms_stay n at (form ∷ forms) v s e =
       value_stays live _ _ (gives_stays form.kind (lambda_of at form) _ (tasks_stay p n live 1 (Evaluate form.root _)) (working 1 s) e) (λ w t h. forms_stay n (suc at) forms w t h)
 
-definition_live : (kind : FormKind) (l : Option Procedure) (s : State) → (with_definition kind l s).live ≡ s.live
-definition_live (Define g) (Some f) s = refl
-definition_live (Define g) None s = refl
-definition_live (Lset g) l s = refl
-definition_live (Operation o) l s = refl
-definition_live Plain l s = refl
-
-definitions_live : (at : ℕ) (forms : List Form) (s : State) → (with_definitions at forms s).live ≡ s.live
-definitions_live at [] s = refl
-definitions_live at (form ∷ forms) s = definitions_live (suc at) forms (with_definition form.kind (lambda_of at form) s) ∙ definition_live form.kind (lambda_of at form) s
-
 pub unit_stays_inside : UnitStaysInside
-unit_stays_inside p n = forms_stay p [] n 0 p.unit.forms.items NilV (start p.unit) (definitions_live 0 p.unit.forms.items (bare_state p.unit))
+unit_stays_inside p n = forms_stay p [] n 0 p.unit.forms.items NilV (start p.unit) refl
 
 observed_proper : (o : Outcome) → StaysInside [] o → (e : End) → (observed o).end ≡ Some e → IsProper e
 observed_proper (Value s v) h e is = let same : e ≡ runs.Value (shown_of s.store v) = cc in subst IsProper (sym same) tt

@@ -1,45 +1,65 @@
 -- The meaning of a unit: its forms in order.
-use Rattle.std.specs.Prelude.{ℕ, suc, false, List, [], ◌∷◌, length, map, Option, Some, None, slice_get}
+use Rattle.std.specs.Prelude.{ℕ, suc, false, if◌then◌else◌, List, [], ◌∷◌, Option, Some, None, slice_get}
 use Rattle.program_runs.specs.Runs.{End, Observation, Run}
 use Rattle.program_runs.specs.Runs as runs
+use Rattle.t_base.specs.declared.shared_parts.Global1.{Global1}
 use Rattle.t_core.specs.declared.forms.FormKind.{FormKind}
 use Rattle.t_core.specs.declared.forms.FormKind.TheVariants.{Define, Lset, Operation, Plain}
 use Rattle.t_core.specs.declared.forms.Form.{Form}
 use Rattle.t_core.specs.declared.forms.UnitCore.{UnitCore}
+use Rattle.t_core.specs.Whole.{defines_global}
 use Rattle.t_prim.specs.Values.{Val, NilV, SymbolV, ClosureV, first_store, shown_of}
 use Rattle.t_meaning.specs.Escape.{lambda_escapes}
 use Rattle.t_meaning.specs.Programs.{Marking, Program, marked, all_escape}
-use Rattle.t_meaning.specs.State.{Procedure, State, with_closure, with_global_at, working}
+use Rattle.t_meaning.specs.State.{Procedure, State, with_global_at, working}
 use Rattle.t_meaning.specs.Outcomes.{Outcome, Value, Escaping, Faulted, Out, Evaluate, with_value, or_unbound}
 use Rattle.t_meaning.specs.Operations.{lambda_of}
 use Rattle.t_meaning.specs.Performing.{perform}
 
--- ---- the start: the quoted pairs, and the closures of all DEFINEs of a LAMBDA; other globals are Unbound
+-- ---- the start: the quoted pairs, and the closures of all DEFINEs of a LAMBDA, which are numbered in the order of the globals;
+-- other globals are Unbound
 
-abbrev pub bare_state : UnitCore → State
-bare_state unit = record {
+-- the LAMBDA of a DEFINE
+abbrev pub defined_by : FormKind → Option Procedure → Option Procedure
+defined_by (Define g) f = f
+defined_by _ f = None
+
+-- the LAMBDA that the global is defined as; the forms stand from place `at` on
+abbrev pub definition_in : ℕ → ℕ → List Form → Option Procedure
+definition_in g at [] = None
+definition_in g at (form ∷ forms) = if defines_global g form.kind then defined_by form.kind (lambda_of at form) else definition_in g (suc at) forms
+
+-- of each global from g on
+abbrev pub definitions : ℕ → List Global1 → List Form → List (Option Procedure)
+definitions g [] forms = []
+definitions g (info ∷ globals) forms = definition_in g 0 forms ∷ definitions (suc g) globals forms
+
+abbrev pub definitions_of : UnitCore → List (Option Procedure)
+definitions_of unit = definitions 0 unit.shared.globals.items unit.forms.items
+
+-- the closures, and the globals with closures from `next` on
+abbrev pub first_closures : List (Option Procedure) → List Procedure
+first_closures [] = []
+first_closures (None ∷ defined) = first_closures defined
+first_closures (Some f ∷ defined) = f ∷ first_closures defined
+
+abbrev pub first_globals : ℕ → List (Option Procedure) → List (Option Val)
+first_globals next [] = []
+first_globals next (None ∷ defined) = None ∷ first_globals next defined
+first_globals next (Some f ∷ defined) = Some (ClosureV next) ∷ first_globals (suc next) defined
+
+abbrev pub start : UnitCore → State
+start unit = record {
   store = first_store unit.shared;
   locations = [];
-  closures = [];
+  closures = first_closures (definitions_of unit);
   objects = [];
-  globals = map (λ g. None) unit.shared.globals.items;
+  globals = first_globals 0 (definitions_of unit);
   live = [];
   catches = 0;
   work = 0;
   deepest = 0;
 }
-
-abbrev pub with_definition : FormKind → Option Procedure → State → State
-with_definition (Define g) (Some f) s = with_global_at (with_closure s f) g (ClosureV (length s.closures))
-with_definition _ _ s = s
-
--- the forms stand from place `at` on
-abbrev pub with_definitions : ℕ → List Form → State → State
-with_definitions at [] s = s
-with_definitions at (form ∷ forms) s = with_definitions (suc at) forms (with_definition form.kind (lambda_of at form) s)
-
-abbrev pub start : UnitCore → State
-start unit = with_definitions 0 unit.forms.items (bare_state unit)
 
 -- ---- a form
 
