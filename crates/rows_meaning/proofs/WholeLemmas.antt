@@ -15,6 +15,7 @@ use Rattle.t_base.specs.declared.shared_parts.GlobalKind.TheVariants.{Proc, Valu
 use Rattle.t_base.specs.declared.shared_parts.OpInfo.{OpInfo}
 use Rattle.t_base.specs.declared.shared_parts.Shared.{Shared}
 use Rattle.t_prim.specs.SharedParts.{IsConst, IsNameText, StandsBelow, IsWholeShared}
+use Rattle.t_prim.proofs.SharedTests.{each_below, each_from, are_distinct, is_empty, are_whole_parts, not_so, or_parts_true, all_from, by_recursion_from, below_from, each_at, not_true, distinct_from, own_number, some_from, const_there, parts_from}
 use Rattle.t_core.specs.declared.forms.Core.{Core}
 use Rattle.t_core.specs.declared.forms.Core.TheVariants as Node
 use Rattle.t_core.specs.declared.forms.FormKind.{FormKind}
@@ -24,82 +25,14 @@ use Rattle.t_core.specs.declared.forms.UnitCore.{UnitCore}
 use Rattle.t_core.specs.Nodes.{parts_of, places_of}
 use Rattle.t_core.specs.Whole.{NamesAreThere, IsTree, HasPlaces, IsInPlace, IsScopedWithin, IsScoped, binders, HasScopes, is_lambda_at, IsShaped, HasShapes, DefinesAs, IsDefault, IsDefinition, defines_global, defines_op, HasDefinitions, named_pairs, HasSharedParts, IsWhole}
 use Rattle.rows_meaning.specs.WholeUnits.{AreWhole}
-use Rattle.rows_meaning.proofs.WholeTests.{each_below, each_from, are_distinct, same_bytes, is_empty, const_is_there, names_are_there, named_so_often, is_tree, has_places, same_var, same_flag, is_in_place, is_scoped_within, is_scoped, has_scopes, is_variable, is_shaped, has_shapes, defines_as, is_default, is_definition, has_definitions, stands_below, is_name_text, are_whole_parts, has_shared_parts, is_whole}
+use Rattle.rows_meaning.proofs.WholeTests.{names_are_there, named_so_often, is_tree, has_places, same_var, same_flag, is_in_place, is_scoped_within, is_scoped, has_scopes, is_variable, is_shaped, has_shapes, defines_as, is_default, is_definition, has_definitions, has_shared_parts, is_whole}
 
 -- ---- tests of lists
-
-not_so : {P : Type 0} → false ≡ true → P
-not_so e = absurd (true≢false (sym e))
-
-or_parts_true : (x y : Bool) → (x || y) ≡ true → (x ≡ true) ⊎ (y ≡ true)
-or_parts_true true y e = inl refl
-or_parts_true false y e = inr e
-
-all_from : {X : Type 0} (P : X → Type 0) (p : X → Bool) → ((x : X) → p x ≡ true → P x) → (xs : List X) → list_all p xs ≡ true → All P xs
-all_from P p holds xs e k d lt = holds (get_or xs k d) (AllPass-from_list_all p xs e k d lt)
-
-by_recursion_from : {X : Type 0} (P : X → Type 0) (p : X → Bool) → ((x : X) → p x ≡ true → P x) → (xs : List X) → list_all p xs ≡ true → AllByRecursion P xs
-by_recursion_from P p holds [] e = tt
-by_recursion_from P p holds (x ∷ xs) e = (holds x (and_parts _ _ e).0, by_recursion_from P p holds xs (and_parts _ _ e).1)
-
-below_from : (test : ℕ → Bool) (n : ℕ) → each_below test n ≡ true → (k : ℕ) → k < n → test k ≡ true
-below_from test zero e k lt = absurd (omega arith)
-below_from test (suc n) e k lt = by (cases_lt k n) (below_from test n (and_parts _ _ e).1 k)
-  where
-    by : (k < n) ⊎ (n ≤ k) → (k < n → test k ≡ true) → test k ≡ true
-    by (inl less) rest = rest less
-    by (inr over) rest = let same : n ≡ k = omega arith in subst (λ (i : ℕ). test i ≡ true) same (and_parts _ _ e).0
-
-each_from_at : {X : Type 0} (test : ℕ → X → Bool) (first : ℕ) (xs : List X) → each_from test first xs ≡ true → (k : ℕ) (x : X) → slice_get xs k ≡ Some x → test (k + first) x ≡ true
-each_from_at test first [] e k x found = absurd (cc)
-each_from_at test first (y ∷ ys) e zero x found =
-    let same : y ≡ x = cc in
-    let there : first ≡ 0 + first = omega arith in
-    subst (λ (i : ℕ). test i x ≡ true) there (subst (λ z. test first z ≡ true) same (and_parts _ _ e).0)
-each_from_at test first (y ∷ ys) e (suc k) x found =
-    let there : k + suc first ≡ suc k + first = omega arith in
-    subst (λ (i : ℕ). test i x ≡ true) there (each_from_at test (suc first) ys (and_parts _ _ e).1 k x found)
-
-each_at : {X : Type 0} (test : ℕ → X → Bool) (xs : List X) → each_from test 0 xs ≡ true → (k : ℕ) (x : X) → slice_get xs k ≡ Some x → test k x ≡ true
-each_at test xs e k x found = let same : k + 0 ≡ k = omega arith in subst (λ (i : ℕ). test i x ≡ true) same (each_from_at test 0 xs e k x found)
-
-not_true : (b : Bool) → not b ≡ true → b ≡ false
-not_true true e = not_so e
-not_true false e = refl
-
--- equal things are the same by the test
-distinct_from : {X : Type 0} (same : X → X → Bool) → ((x : X) → same x x ≡ true) → (xs : List X) → are_distinct same xs ≡ true → AllPairs (λ x y. x ≢ y) xs
-distinct_from same own [] e i j d lt within = absurd (omega arith)
-distinct_from same own (x ∷ xs) e i zero d lt within = absurd (omega arith)
-distinct_from same own (x ∷ xs) e zero (suc j) d lt within =
-    let other : same x (get_or xs j d) ≡ false = not_true _ (AllPass-from_list_all (λ y. not (same x y)) xs (and_parts _ _ e).0 j d (omega arith)) in
-    λ is. true≢false (sym (own x) ∙ ap (λ y. same x y) is ∙ other)
-distinct_from same own (x ∷ xs) e (suc i) (suc j) d lt within = distinct_from same own xs (and_parts _ _ e).1 i j d (omega arith) (omega arith)
-
-own_number : (n : ℕ) → (n == n) ≡ true
-own_number n = grind arith
 
 own_var : (v : Var) → same_var v v ≡ true
 own_var v = own_number v.0
 
-own_bytes : (bytes : List ℕ) → same_bytes bytes bytes ≡ true
-own_bytes [] = refl
-own_bytes (b ∷ bytes) = ap (λ t. t && same_bytes bytes bytes) (own_number b) ∙ own_bytes bytes
-
-some_from : {X : Type 0} (P : X → Type 0) (p : X → Bool) → ((x : X) → p x ≡ true → P x) → (found : Option X) → option_map_or p found false ≡ true → IsSomeAnd found P
-some_from P p holds None e = not_so e
-some_from P p holds (Some x) e = holds x e
-
 -- ---- places
-
-const_there : (shared : Shared) (c : Const) → const_is_there shared c ≡ true → IsConst shared c
-const_there shared (Constant.Fix x) e = e
-const_there shared (Constant.Char c) e = ltb-true c 128 e
-const_there shared Constant.Nil e = tt
-const_there shared Constant.True e = tt
-const_there shared (Constant.Sym n) e = ltb-true n.0 (length shared.names) e
-const_there shared (Constant.Str s) e = ltb-true s (length shared.strings.items) e
-const_there shared (Constant.Pair k) e = ltb-true k (length shared.pairs.items) e
 
 names_there : (shared : Shared) (node : Core) → names_are_there shared node ≡ true → NamesAreThere shared node
 names_there shared (Node.Const c) e = const_there shared c e
@@ -293,69 +226,6 @@ definitions_from unit e =
     }
 
 -- ---- shared parts
-
-stands_from : (k : ℕ) (c : Const) → stands_below k c ≡ true → StandsBelow k c
-stands_from k (Constant.Pair j) e = ltb-true j k e
-stands_from k (Constant.Fix x) e = tt
-stands_from k (Constant.Char x) e = tt
-stands_from k Constant.Nil e = tt
-stands_from k Constant.True e = tt
-stands_from k (Constant.Sym x) e = tt
-stands_from k (Constant.Str x) e = tt
-
-text_from : (text : List ℕ) → is_name_text text ≡ true → IsNameText text
-text_from text e = (
-  ltb-true 0 (length text) (and_parts _ _ e).0,
-  all_from (λ b. (33 ≤ b) × (b ≤ 126)) (λ b. nat_le 33 b && nat_le b 126) (λ b h. (leb-true 33 b (and_parts _ _ h).0, leb-true b 126 (and_parts (nat_le 33 b) _ h).1))
-      text (and_parts (nat_lt 0 (length text)) _ e).1,
-)
-
-no_default : (found : Option OpInfo) → option_map_or (λ info. not info.default) found false ≡ true → option_map (λ (info : OpInfo). info.default) found ≡ Some false
-no_default None e = not_so e
-no_default (Some info) e = ap Some (not_true info.default e)
-
-eight_parts : (a b c d e f g h : Bool) → (a && (b && (c && (d && (e && (f && (g && h))))))) ≡ true
-    → (a ≡ true) × (b ≡ true) × (c ≡ true) × (d ≡ true) × (e ≡ true) × (f ≡ true) × (g ≡ true) × (h ≡ true)
-eight_parts a b c d e f g h all =
-    let p = and_parts a _ all in
-    let q = and_parts b _ p.1 in
-    let r = and_parts c _ q.1 in
-    let s = and_parts d _ r.1 in
-    let t = and_parts e _ s.1 in
-    let u = and_parts f _ t.1 in
-    let v = and_parts g _ u.1 in
-    (p.0, q.0, r.0, s.0, t.0, u.0, v.0, v.1)
-
-parts_from : (shared : Shared) → are_whole_parts shared ≡ true → IsWholeShared shared
-parts_from shared e =
-    let p = eight_parts
-    (list_all is_name_text shared.names)
-    (are_distinct same_bytes shared.names)
-    (list_all (λ bytes. list_all (λ b. nat_lt b 128) bytes) shared.strings.items)
-    (list_all (λ p. const_is_there shared p.0 && const_is_there shared p.1) shared.pairs.items)
-    (each_from (λ k p. stands_below k p.0 && stands_below k p.1) 0 shared.pairs.items)
-    (list_all (λ g. nat_lt g.name.0 (length shared.names)) shared.globals.items)
-    (list_all (λ o. nat_lt o.name.0 (length shared.names)) shared.ops.items)
-    (each_below (λ o. option_map_or (λ info. not info.default) (slice_get shared.ops.items o) false) 3) e in
-    record {
-      names = all_from IsNameText is_name_text text_from shared.names p.0;
-      distinct = distinct_from same_bytes own_bytes shared.names p.1;
-      strings = all_from (λ bytes. All (λ b. b < 128) bytes) (λ bytes. list_all (λ b. nat_lt b 128) bytes)
-          (λ bytes h. all_from (λ b. b < 128) (λ b. nat_lt b 128) (λ b lt. ltb-true b 128 lt) bytes h) shared.strings.items p.2;
-      pairs = all_from (λ (c : Const × Const). IsConst shared c.0 × IsConst shared c.1) (λ (c : Const × Const). const_is_there shared c.0 && const_is_there shared c.1)
-          (λ c h. (const_there shared c.0 (and_parts _ _ h).0, const_there shared c.1 (and_parts (const_is_there shared c.0) _ h).1)) shared.pairs.items p.3;
-      lower = record {
-        parts_below = λ k c found.
-            let h : (stands_below k c.0 && stands_below k c.1) ≡ true = each_at (λ i (d : Const × Const). stands_below i d.0 && stands_below i d.1) shared.pairs.items p.4 k c found in
-            (stands_from k c.0 (and_parts _ _ h).0, stands_from k c.1 (and_parts (stands_below k c.0) _ h).1);
-      };
-      globals = all_from (λ (g : Global1). g.name.0 < length shared.names) (λ (g : Global1). nat_lt g.name.0 (length shared.names))
-          (λ g h. ltb-true g.name.0 (length shared.names) h) shared.globals.items p.5;
-      ops = all_from (λ (o : OpInfo). o.name.0 < length shared.names) (λ (o : OpInfo). nat_lt o.name.0 (length shared.names))
-          (λ o h. ltb-true o.name.0 (length shared.names) h) shared.ops.items p.6;
-      builtins = λ o lt. no_default (slice_get shared.ops.items o)
-          (below_from (λ i. option_map_or (λ info. not info.default) (slice_get shared.ops.items i) false) 3 p.7 o lt);
-    }
 
 shared_from : (unit : UnitCore) → has_shared_parts unit ≡ true → HasSharedParts unit
 shared_from unit e =

@@ -10,6 +10,7 @@ use Rattle.t_base.specs.declared.shared_parts.GlobalKind.TheVariants.{Proc, Valu
 use Rattle.t_base.specs.declared.shared_parts.Shared.{Shared}
 use Rattle.t_prim.specs.Operands.{in_range}
 use Rattle.t_prim.specs.Table.{arity_of}
+use Rattle.t_prim.proofs.SharedTests.{each_below, each_from, are_distinct, is_empty, const_is_there, are_whole_parts}
 use Rattle.t_core.specs.declared.forms.Core.{Core}
 use Rattle.t_core.specs.declared.forms.Core.TheVariants as Node
 use Rattle.t_core.specs.declared.forms.FormKind.{FormKind}
@@ -23,40 +24,7 @@ use Rattle.t_core.specs.Whole.{binders, is_lambda_at, defines_global, defines_op
 
 -- ---- lists
 
--- each number below
-abbrev pub each_below : (ℕ → Bool) → ℕ → Bool
-each_below test zero = true
-each_below test (suc n) = test n && each_below test n
-
--- each element with its place, where the first one has this place
-abbrev pub each_from : {X : Type 0} → (ℕ → X → Bool) → ℕ → List X → Bool
-each_from test k [] = true
-each_from test k (x ∷ xs) = test k x && each_from test (suc k) xs
-
-abbrev pub are_distinct : {X : Type 0} → (X → X → Bool) → List X → Bool
-are_distinct same [] = true
-are_distinct same (x ∷ xs) = list_all (λ y. not (same x y)) xs && are_distinct same xs
-
-abbrev pub same_bytes : List ℕ → List ℕ → Bool
-same_bytes [] [] = true
-same_bytes [] (y ∷ ys) = false
-same_bytes (x ∷ xs) [] = false
-same_bytes (x ∷ xs) (y ∷ ys) = (x == y) && same_bytes xs ys
-
-abbrev pub is_empty : {X : Type 0} → List X → Bool
-is_empty [] = true
-is_empty (x ∷ xs) = false
-
 -- ---- places
-
-abbrev pub const_is_there : Shared → Const → Bool
-const_is_there shared (Constant.Fix x) = in_range x
-const_is_there shared (Constant.Char c) = nat_lt c 128
-const_is_there shared Constant.Nil = true
-const_is_there shared Constant.True = true
-const_is_there shared (Constant.Sym n) = nat_lt n.0 (length shared.names)
-const_is_there shared (Constant.Str s) = nat_lt s (length shared.strings.items)
-const_is_there shared (Constant.Pair k) = nat_lt k (length shared.pairs.items)
 
 abbrev pub names_are_there : Shared → Core → Bool
 names_are_there shared (Node.Const c) = const_is_there shared c
@@ -149,23 +117,6 @@ has_definitions unit =
     && each_below (λ o. nat_lt o 3 || (count_by (λ form. defines_op o form.kind) unit.forms.items == 1)) (length unit.shared.ops.items))
 
 -- ---- shared parts
-
-abbrev pub stands_below : ℕ → Const → Bool
-stands_below k (Constant.Pair j) = nat_lt j k
-stands_below k _ = true
-
-abbrev pub is_name_text : List ℕ → Bool
-is_name_text text = nat_lt 0 (length text) && list_all (λ b. nat_le 33 b && nat_le b 126) text
-
-abbrev pub are_whole_parts : Shared → Bool
-are_whole_parts shared =
-    list_all is_name_text shared.names && (are_distinct same_bytes shared.names
-    && (list_all (λ bytes. list_all (λ b. nat_lt b 128) bytes) shared.strings.items
-    && (list_all (λ p. const_is_there shared p.0 && const_is_there shared p.1) shared.pairs.items
-    && (each_from (λ k p. stands_below k p.0 && stands_below k p.1) 0 shared.pairs.items
-    && (list_all (λ g. nat_lt g.name.0 (length shared.names)) shared.globals.items
-    && (list_all (λ o. nat_lt o.name.0 (length shared.names)) shared.ops.items
-    && each_below (λ o. option_map_or (λ info. not info.default) (slice_get shared.ops.items o) false) 3))))))
 
 abbrev pub has_shared_parts : UnitCore → Bool
 has_shared_parts unit =

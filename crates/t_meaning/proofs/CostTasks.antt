@@ -29,8 +29,9 @@ use Rattle.t_meaning.specs.Performing.{act, perform}
 use Rattle.t_meaning.specs.Escape.{lambda_escapes}
 use Rattle.t_meaning.specs.Units.{name_of_global, storing, form_gives, run_forms, start, observed}
 use Rattle.t_meaning.specs.BoundLaws.{state_of}
-use Rattle.t_meaning.specs.CostLaws.{MarksMore, IsAtMost, MarksChangeHeapAlone, MeaningIsAtMost}
-use Rattle.t_meaning.proofs.CostRows.{store_at, IsDearerRow, row_dearer}
+use Rattle.program_runs.specs.MoreHeap.{IsAtMost}
+use Rattle.t_meaning.specs.CostLaws.{MarksMore, MarksChangeHeapAlone, MeaningIsAtMost}
+use Rattle.t_prim.proofs.DearerRows.{store_at, IsDearerRow, row_dearer}
 
 -- ---- more words of heap
 

@@ -3,6 +3,5 @@ pub mod EscapeLaws
 pub mod BoundLemmas
 pub mod BoundTasks
 pub mod CostLemmas
-pub mod CostRows
 pub mod CostTasks
 pub mod CatchLemmas

@@ -3,7 +3,7 @@ use Rattle.std.specs.Prelude.{◌≡◌, ℕ, ◌≤◌, false, Some, IsTrue}
 use Rattle.t_base.specs.declared.lists.Vars.{Vars}
 use Rattle.t_core.specs.declared.forms.Core.TheVariants as Node
 use Rattle.t_core.specs.declared.forms.UnitCore.{UnitCore}
-use Rattle.program_runs.specs.Runs.{Observation}
+use Rattle.program_runs.specs.MoreHeap.{IsAtMost}
 use Rattle.t_meaning.specs.Programs.{Marking, Program, node_at}
 use Rattle.t_meaning.specs.State.{State}
 use Rattle.t_meaning.specs.Outcomes.{Context, Evaluate}
@@ -22,14 +22,6 @@ UnmarkedTakesNoHeap =
 -- the second marks what the first marks
 abbrev pub MarksMore : Marking → Marking → Type 0
 MarksMore a b = (form node : ℕ) → IsTrue (a form node) → IsTrue (b form node)
-
--- the same but for the words of heap, of which the second has no fewer
-pub record IsAtMost (x y : Observation) : Type 0 where
-  pub output : y.output ≡ x.output
-  pub end : y.end ≡ x.end
-  pub heap : x.heap ≤ y.heap
-  pub waiting : y.waiting ≡ x.waiting
-  pub moves : y.moves ≡ x.moves
 
 abbrev pub MarksChangeHeapAlone : Type 0
 MarksChangeHeapAlone = (unit : UnitCore) (a b : Marking) → MarksMore a b → (n : ℕ) → IsAtMost (meaning unit a n) (meaning unit b n)
