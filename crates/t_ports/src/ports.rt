@@ -44,6 +44,7 @@ pub trait Folder {
         ensures long { IfErr result (FetchFails (files self.old) name.now cap) }
         ensures later { fetch_faults self.old ≤ fetch_faults self.new }
         ensures cause { IfErr result (FetchCause (fetch_faults self.old) (fetch_faults self.new)) }
+        ensures counts_stand { OnOk result (fetch_faults self.new ≡ fetch_faults self.old) }
         ensures keeps { keep_faults self.new ≡ keep_faults self.old };
 
     /// Puts the bytes under the name, in the place of those that are there. Where this fails, what is told of the content stays.
@@ -52,6 +53,7 @@ pub trait Folder {
         ensures err { OnErr result (IfBothTold (files self.old) (files self.new) IsSame) }
         ensures later { keep_faults self.old ≤ keep_faults self.new }
         ensures cause { IfErr result (KeepCause (keep_faults self.old) (keep_faults self.new)) }
+        ensures counts_stand { OnOk result (keep_faults self.new ≡ keep_faults self.old) }
         ensures fetches { fetch_faults self.new ≡ fetch_faults self.old };
 }
 

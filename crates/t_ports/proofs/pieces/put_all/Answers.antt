@@ -1,4 +1,4 @@
-use Rattle.std.proofs.Common.{◌-◌, ◌^◌, min, le_trans, ap, sym, ◌∙◌}
+use Rattle.std.proofs.Common.{◌-◌, ◌^◌, min, ap, sym, ◌∙◌}
 use Rattle.t_ports.specs.Pieces.{text_of}
 use Rattle.t_ports.proofs.PutPieces.{took_more, took_count, front, counts_on, length-text_of-more}
 use Rattle.t_ports.proofs.pieces.put_all.Goals as goal
@@ -18,5 +18,5 @@ pub pieces-preserved : goal.pieces-preserved
 pieces-preserved g c = record {
   taken = took_more g.S.Sink.took g.met.S.Sink.took_both _ _ _ c.args.pieces.now c.pieces.piece-index _ c.pieces-test.true c.pieces.invariant.taken c.in-Ok.ensures.ok;
   counted = c.saturating_add-done.ensures ∙ counts_on _ _ _ c.pieces.invariant.counted ∙ ap (λ n. min n (2 ^ 64 - 1)) (sym (length-text_of-more c.args.pieces.now c.pieces.piece-index _ c.pieces-test.true));
-  later = le_trans c.pieces.invariant.later c.put.ensures.cause.later;
+  same = c.in-Ok.ensures.cause.kept ∙ c.pieces.invariant.same;
 }
