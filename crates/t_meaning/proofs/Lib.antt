@@ -6,3 +6,6 @@ pub mod CostLemmas
 pub mod CostRows
 pub mod CostTasks
 pub mod CatchLemmas
+pub mod SoundStates
+pub mod SoundTasks
+pub mod SoundUnits
