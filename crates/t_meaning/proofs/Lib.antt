@@ -5,3 +5,6 @@ pub mod BoundTasks
 pub mod CostLemmas
 pub mod CostTasks
 pub mod CatchLemmas
+pub mod SoundStates
+pub mod SoundTasks
+pub mod SoundUnits

@@ -15,3 +15,4 @@ pub mod Units
 pub mod BoundLaws
 pub mod CostLaws
 pub mod CatchLaws
+pub mod Soundness

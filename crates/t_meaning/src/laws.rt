@@ -5,6 +5,7 @@ pub mod escape;
 ghost use Rattle.t_meaning.specs.BoundLaws.{TaskOnlyAdds, TaskExtends, UnitExtends, MeaningIsSteady, MeaningWaits};
 ghost use Rattle.t_meaning.specs.CatchLaws.{TasksStayInside, UnitStaysInside, EndsAreProper};
 ghost use Rattle.t_meaning.specs.CostLaws.{UnmarkedTakesNoHeap, MarksChangeHeapAlone, MeaningIsAtMost};
+ghost use Rattle.t_meaning.specs.Soundness.{DefinitionsAreProcedures, StartIsSound, TasksKeepSound, UnitKeepsSound, UnboundIsAGlobal};
 
 /// A task only adds to the output and to the counters of heap, work and depth. One that isn't out of its bound gives the same at
 /// every greater bound, and one that is has no more output and no higher counters than at a greater bound.
@@ -39,4 +40,15 @@ pub fn unmarked_takes_no_heap()
 pub fn marks_change_heap_alone()
     ensures marks { MarksChangeHeapAlone }
     ensures at_most { MeaningIsAtMost }
+{}
+
+/// In a whole unit a global is defined as a LAMBDA exactly where it is a procedure. What a variable, a location, a closure, an object or a
+/// method is wanted for is there, at the start and in every state that a task comes to. Fault 9 arises only where a global that a node reads or
+/// assigns has no value.
+pub fn unbound_is_a_global()
+    ensures definitions { DefinitionsAreProcedures }
+    ensures start { StartIsSound }
+    ensures tasks { TasksKeepSound }
+    ensures units { UnitKeepsSound }
+    ensures unbound { UnboundIsAGlobal }
 {}
