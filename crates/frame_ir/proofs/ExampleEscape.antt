@@ -290,6 +290,28 @@ module _ (alloc : Global) where
       let same : (get_or all_vars i d).0 ≡ (get_or all_vars j d).0 = ap (λ x. x.0) e in
       omega (arith, one, other, same, lt)
 
+  -- each number below nine is bound
+  is_bound : (x : ℕ) → x < 9 → Contains all_vars (var x)
+  is_bound x lt = (x, lt, same (get_or all_vars x (var x)) (number_at x (var x) lt))
+    where
+      same : (v : Var) → v.0 ≡ x → v ≡ var x
+      same v e = ap (λ n. record { 0 = n }) e
+
+  abbrev used_vars : List Var
+  used_vars = var 0 ∷ var 1 ∷ var 2 ∷ var 3 ∷ var 4 ∷ var 5 ∷ var 6 ∷ var 7 ∷ var 8 ∷ []
+
+  all_bound : All (Contains all_vars) used_vars
+  all_bound zero d lt = is_bound 0 (omega arith)
+  all_bound (suc zero) d lt = is_bound 1 (omega arith)
+  all_bound (suc (suc zero)) d lt = is_bound 2 (omega arith)
+  all_bound (suc (suc (suc zero))) d lt = is_bound 3 (omega arith)
+  all_bound (suc (suc (suc (suc zero)))) d lt = is_bound 4 (omega arith)
+  all_bound (suc (suc (suc (suc (suc zero))))) d lt = is_bound 5 (omega arith)
+  all_bound (suc (suc (suc (suc (suc (suc zero)))))) d lt = is_bound 6 (omega arith)
+  all_bound (suc (suc (suc (suc (suc (suc (suc zero))))))) d lt = is_bound 7 (omega arith)
+  all_bound (suc (suc (suc (suc (suc (suc (suc (suc zero)))))))) d lt = is_bound 8 (omega arith)
+  all_bound (suc (suc (suc (suc (suc (suc (suc (suc (suc i))))))))) d lt = absurd (omega (arith, lt))
+
   -- ---- shapes and blocks
 
   get_shaped : (to from : ℕ) → All (IsShapedOp q) (Op.ClosureGet (var to) (var from) 0 ∷ [])
@@ -343,7 +365,7 @@ module _ (alloc : Global) where
 pub past_a_frame_is_whole : PastAFrameIsWhole
 past_a_frame_is_whole alloc = record {
   places = record { blocks = there alloc; templates = templates alloc; entry = omega arith; first_codes = omega arith };
-  scopes = record { scope = scope alloc; bound_once = numbered alloc; own = λ n b e other. own alloc n b e; arms = λ n b test first second e is. absurd (no_arms alloc n b e test first second is); used = used alloc };
+  scopes = record { scope = scope alloc; bound_once = numbered alloc; bound = all_bound alloc; own = λ n b e other. own alloc n b e; arms = λ n b test first second e is. absurd (no_arms alloc n b e test first second is); used = used alloc };
   shapes = record { ops = shaped alloc; ends = ends_shaped alloc; templates = same_lengths alloc };
   blocks = record { arms = All-nil _; codes = codes alloc; first_codes = λ n lt. absurd (omega (arith, lt)); methods = methods alloc; backs = backs alloc; entry = refl };
   shared = whole_shared alloc;
