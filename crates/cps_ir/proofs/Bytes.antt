@@ -3,7 +3,7 @@ use Rattle.std.proofs.Common.{◌≡◌, ℕ, zero, suc, ◌+◌, ◌*◌, ◌�
 use Rattle.std.proofs.lemmas.Bool.{cases_lt}
 use Rattle.std.proofs.lemmas.List.Sums.{sum_by-cons}
 use Rattle.cps_ir.specs.Loads.{Bulk}
-use Rattle.cps_ir.specs.Bytes.{bytes_of, IsOfNodes, weight_of, most_weight, most_code, once, form_bytes, FormsLeaveRoom, BytesAreFew, CodeFits}
+use Rattle.cps_ir.specs.Bytes.{bytes_of, IsOfNodes, most_code, once, form_bytes, FormsLeaveRoom, BytesAreFew, CodeFits}
 
 -- a number is at most its square
 square_above : (m : ℕ) → m ≤ m * m

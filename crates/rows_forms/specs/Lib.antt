@@ -1,0 +1,3 @@
+pub mod CpsTexts
+pub mod FrameTexts
+pub mod WordTexts
