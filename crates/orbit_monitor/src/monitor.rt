@@ -108,6 +108,7 @@ pub fn run<S: Sink>(boot: &mut Boot, steps: u64, out: &mut S) -> End
     ensures sink { IfSink result (FailsAtPut S.took boot.old steps boot.new out.old out.new) }
     ensures cause { IfSink result (Rose (S.faults out.old) (S.faults out.new)) }
     ensures later { S.faults out.old ≤ S.faults out.new }
+    ensures stands { IfRan result (S.faults out.new ≡ S.faults out.old) }
 {
     if let Some(exit) = boot.end {
         return End::from(exit);

@@ -1,4 +1,4 @@
-use Rattle.std.proofs.Common.{◌+◌, ◌≤◌, ap, sym, ◌∙◌, subst, arith}
+use Rattle.std.proofs.Common.{◌+◌, ◌≤◌, refl, ap, sym, ◌∙◌, subst, arith}
 use Rattle.orbit_monitor.specs.declared.end.End.{End}
 use Rattle.orbit_monitor.specs.declared.end.End.TheVariants as answer
 use Rattle.machine_services.specs.Runs.{Progress}
@@ -46,6 +46,12 @@ returns-in-Ok-Some-clause-took g c = if_ran _ _ (last_turn g c).given
 pub returns-in-Ok-Some-clause-loaded : goal.returns-in-Ok-Some-clause-loaded
 returns-in-Ok-Some-clause-loaded g c = if_ran _ _ (last_turn g c).loaded
 
+pub returns-in-Some-clause-stands : goal.returns-in-Some-clause-stands
+returns-in-Some-clause-stands g c = if_ran _ _ refl
+
+pub returns-in-Ok-Some-clause-stands : goal.returns-in-Ok-Some-clause-stands
+returns-in-Ok-Some-clause-stands g c = if_ran _ _ (c.in-Ok-Some.ensures.cause.kept ∙ c.loop-done.invariant.stands)
+
 pub returns-in-Err-clause-sink : goal.returns-in-Err-clause-sink
 returns-in-Err-clause-sink g c =
     fails_here g.S.Sink.took g.met.S.Sink.took_both c.args.boot.now c.loop-done.boot c.turn.new.boot c.loop-done._done c.args.steps c.args.out.now c.loop-done.out c.turn.new.out c.loop-done.invariant.at (omega arith) c.in-Err.ensures.part
@@ -53,5 +59,5 @@ returns-in-Err-clause-sink g c =
 pub loop-done-preserved : goal.loop-done-preserved
 loop-done-preserved g c = record {
   at = goes_further g.S.Sink.took g.met.S.Sink.took_both c.args.boot.now c.loop-done.boot c.turn.new.boot c.loop-done._done c.args.out.now c.loop-done.out c.turn.new.out c.loop-done.invariant.at c.in-Ok-None.ensures.loaded (sym c.in-Ok-None.field-0-is ∙ c.in-Ok-None.ensures.end) c.in-Ok-None.ensures.took;
-  later = omega (arith, c.loop-done.invariant.later, c.turn.ensures.cause.later);
+  stands = c.in-Ok-None.ensures.cause.kept ∙ c.loop-done.invariant.stands;
 }

@@ -1,9 +1,9 @@
-use Rattle.std.proofs.Common.{◌≤◌}
+use Rattle.std.proofs.Common.{◌≡◌}
 use Rattle.orbit_monitor.proofs.Turns.{IsAt}
 use Rattle.orbit_monitor.proofs.monitor.run.Given as goal
 
 abbrev pub invariant-loop-done : goal.invariant-loop-done
 invariant-loop-done g l = record {
   at : IsAt g.S.Sink.took l.initial.boot l._done l.boot l.initial.out l.out;
-  later : g.S.Sink.faults l.initial.out ≤ g.S.Sink.faults l.out;
+  stands : g.S.Sink.faults l.out ≡ g.S.Sink.faults l.initial.out;
 }
