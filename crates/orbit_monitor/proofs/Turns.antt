@@ -1,5 +1,5 @@
 -- What an instruction and a service come to, and how they carry a run further.
-use Rattle.std.proofs.Common.{◌≡◌, ℕ, ◌+◌, ◌-◌, ◌≤◌, ◌<◌, List, [], ◌∷◌, ◌++◌, length, Option, Some, None, refl, sym, ap, subst, ◌∙◌, arith, slice_get}
+use Rattle.std.proofs.Common.{◌≡◌, ℕ, zero, suc, ◌+◌, ◌-◌, ◌≤◌, ◌<◌, List, [], ◌∷◌, ◌++◌, length, Option, Some, None, refl, sym, ap, subst, ◌∙◌, arith, slice_get}
 use Rattle.m68020_step.specs.declared.machine.Step.TheVariants as step
 use Rattle.m68020_step.specs.declared.registers.Why.{Why}
 use Rattle.m68020_step.specs.Step.{State, step_of}
@@ -9,7 +9,7 @@ use Rattle.machine_services.specs.declared.exit.Exit.TheVariants as exit
 use Rattle.orbit_monitor.specs.declared.services.Outcome.{Outcome}
 use Rattle.machine_services.specs.Services.{Served, Puts, Exits, Bad, or_bad, serve}
 use Rattle.machine_services.specs.Runs.{Progress, act, served, stepped, followed}
-use Rattle.orbit_monitor.specs.Answering.{Loaded, run_on, last_after, after, FailsAtPut}
+use Rattle.orbit_monitor.specs.Answering.{Loaded, run_on, last_after, after, AsksToPut, pieces_served, pieces_stepped, pieces_next, pieces_within, FailsAtPut}
 use Rattle.orbit_monitor.specs.Turn.{outcome_of, put_of, or_else, settled, FailsIn, FailsInTurn}
 use Rattle.machine_services.proofs.Runs.{run_from-next, further-going, run_from-add, run_from-ended}
 
@@ -82,6 +82,7 @@ module _ {S : Type 0} (took : S → List ℕ → S → Type 0) where
   pub FailsInTurn-service : (b : Loaded) (s : State) (vector : ℕ) (old new : S) → (step.Service vector, s) ≡ step_of b.state → b.end ≡ None → FailsIn took (serve b.names s vector) old new → FailsInTurn took b (record b { state = s }) old new
   FailsInTurn-service b s vector old new is going f =
       let acted : act b.names b.state ≡ record { state = s; output = f.bytes; end = None; instructions = 1 } = act-service b.names b.state s vector is ∙ ap (λ (v : Served). served s b.state.registers.pc v) f.is in record {
+        asks = record { vector = vector; behind = s; asked = sym is; bytes = f.bytes; puts = f.is };
         front = f.front;
         rest = f.rest;
         due = ap (λ (p : Progress). p.output) acted ∙ f.due;
@@ -115,6 +116,31 @@ after-followed : (b c : Loaded) (p q : Progress) → c ≡ after b p → after c
 after-followed b c p q is =
     ap (λ (d : Loaded). after d q) is
     ∙ ap (λ (l : Option ℕ). let x : Loaded = record { names = b.names; state = q.state; end = q.end; last = l } in x) (last_after-append b.last p.output q.output)
+
+-- ---- pieces
+
+-- a service that puts
+pub pieces-service : (names : List (List ℕ)) (s t : State) (vector : ℕ) → (step.Service vector, t) ≡ step_of s → pieces_next names s None ≡ pieces_served (serve names t vector)
+pieces-service names s t vector is = ap (λ (x : _). pieces_stepped names x) (sym is)
+
+-- one instruction more
+pub pieces-next : (b c : Loaded) (m : ℕ) → c ≡ after b (run_on b m) → (run_on b m).end ≡ None → pieces_within b (m + 1) ≡ pieces_within b m + pieces_next c.names c.state None
+pieces-next b c m loaded going =
+    let up : m + 1 ≡ suc m = omega arith in
+    ap (pieces_within b) up
+    ∙ ap (λ (o : Option Exit). pieces_within b m + pieces_next b.names (run_on b m).state o) going
+    ∙ sym (ap (λ (l : Loaded). pieces_within b m + pieces_next l.names l.state None) loaded)
+
+pieces-grow : (b : Loaded) (m k : ℕ) → pieces_within b m ≤ pieces_within b (k + m)
+pieces-grow b m zero = let e : 0 + m ≡ m = omega arith in subst (λ (n : ℕ). pieces_within b m ≤ pieces_within b n) (sym e) (omega arith)
+pieces-grow b m (suc k) =
+    let e : suc k + m ≡ suc (k + m) = omega arith in
+    let before : pieces_within b m ≤ pieces_within b (k + m) = pieces-grow b m k in
+    let now : pieces_within b m ≤ pieces_within b (k + m) + pieces_next b.names (run_on b (k + m)).state (run_on b (k + m)).end = omega (arith, before) in
+    subst (λ (n : ℕ). pieces_within b m ≤ pieces_within b n) (sym e) now
+
+pub pieces-up : (b : Loaded) (m n : ℕ) → m ≤ n → pieces_within b m ≤ pieces_within b n
+pieces-up b m n le = let e : (n - m) + m ≡ n = omega (arith, le) in subst (λ (k : ℕ). pieces_within b m ≤ pieces_within b k) e (pieces-grow b m (n - m))
 
 -- What has ended stays.
 pub run_on-ended : (b : Loaded) (m : ℕ) (e : Exit) → b.end ≡ Some e → run_on b m ≡ record { state = b.state; output = []; end = b.end; instructions = 0 }
@@ -163,6 +189,7 @@ module _ {S : Type 0} (took : S → List ℕ → S → Type 0) (both : (a b c : 
         before = m;
         within = lt;
         going = at.going;
+        asks = subst (λ (l : Loaded). AsksToPut l.names l.state) at.loaded f.asks;
         front = f.front;
         rest = f.rest;
         due = sym (ap (λ (l : Loaded). (act l.names l.state).output) at.loaded) ∙ f.due;

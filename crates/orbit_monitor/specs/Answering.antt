@@ -1,14 +1,17 @@
 -- A program in the monitor, and what a call that runs it answers.
-use Rattle.std.specs.Prelude.{◌≡◌, ℕ, ◌+◌, ◌<◌, List, [], ◌∷◌, ◌++◌, length, Option, Some, None}
+use Rattle.std.specs.Prelude.{◌≡◌, ℕ, zero, suc, ◌+◌, ◌<◌, List, [], ◌∷◌, ◌++◌, length, Option, Some, None}
 use Rattle.t_base.specs.declared.faults.Face.{Face}
 use Rattle.t_base.specs.declared.faults.Face.TheVariants as face
 use Rattle.image_file.specs.Grammar.{Parts}
 use Rattle.m68020_step.specs.declared.machine.Sizes.{Sizes}
-use Rattle.m68020_step.specs.Step.{State}
+use Rattle.m68020_step.specs.declared.machine.Step.{Step}
+use Rattle.m68020_step.specs.declared.machine.Step.TheVariants as step
+use Rattle.m68020_step.specs.Step.{State, step_of}
 use Rattle.machine_services.specs.declared.exit.Exit.{Exit}
 use Rattle.machine_services.specs.declared.exit.Exit.TheVariants as exit
 use Rattle.orbit_monitor.specs.declared.end.End.{End}
 use Rattle.orbit_monitor.specs.declared.end.End.TheVariants as answer
+use Rattle.machine_services.specs.Services.{Served, Puts, Exits, Bad, serve}
 use Rattle.machine_services.specs.Runs.{Progress, act, run_from}
 use Rattle.orbit_monitor.specs.Run.{booted}
 
@@ -90,12 +93,44 @@ AnswerIsNamed names answer.Steps = Unit {0}
 AnswerIsNamed names (answer.Stop why at) = Unit {0}
 AnswerIsNamed names answer.Sink = Unit {0}
 
+-- ---- the services that put
+
+-- the instruction at which the machine stands is a TRAP whose service puts these bytes
+pub record AsksToPut (names : List (List ℕ)) (s : State) : Type 0 where
+  pub vector : ℕ
+  pub behind : State
+  pub asked : step_of s ≡ (step.Service vector, behind)
+  pub bytes : List ℕ
+  pub puts : serve names behind vector ≡ Puts bytes
+
+-- of a service, one piece or none
+abbrev pub pieces_served : Served → ℕ
+pieces_served (Puts bytes) = 1
+pieces_served (Exits how) = 0
+pieces_served Bad = 0
+
+-- of an instruction: only a service puts
+abbrev pub pieces_stepped : List (List ℕ) → Step × State → ℕ
+pieces_stepped names (step.On, s) = 0
+pieces_stepped names (step.Service vector, s) = pieces_served (serve names s vector)
+pieces_stepped names (step.Stop why, s) = 0
+
+abbrev pub pieces_next : List (List ℕ) → State → Option Exit → ℕ
+pieces_next names s (Some how) = 0
+pieces_next names s None = pieces_stepped names (step_of s)
+
+-- how many of the first m instructions are services that put
+abbrev pub pieces_within : Loaded → ℕ → ℕ
+pieces_within b zero = 0
+pieces_within b (suc m) = pieces_within b m + pieces_next b.names (run_on b m).state (run_on b m).end
+
 -- A put failed: so many instructions ran and put all that was due, and then a service had a front of its bytes taken. The
 -- program stands behind that service, whose bytes do not count as put.
 pub record FailsAtPut {S : Type 0} (took : S → List ℕ → S → Type 0) (b : Loaded) (steps : ℕ) (c : Loaded) (old new : S) : Type 0 where
   pub before : ℕ
   pub within : before < steps
   pub going : (run_on b before).end ≡ None
+  pub asks : AsksToPut b.names (run_on b before).state
   pub front : List ℕ
   pub rest : List ℕ
   pub due : (act b.names (run_on b before).state).output ≡ front ++ rest

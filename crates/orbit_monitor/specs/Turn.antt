@@ -6,7 +6,7 @@ use Rattle.orbit_monitor.specs.declared.services.Outcome.{Outcome}
 use Rattle.orbit_monitor.specs.declared.services.Outcome.TheVariants as outcome
 use Rattle.machine_services.specs.Services.{Served, Puts, Exits, Bad}
 use Rattle.machine_services.specs.Runs.{act}
-use Rattle.orbit_monitor.specs.Answering.{Loaded, last_after, after, IsNamed}
+use Rattle.orbit_monitor.specs.Answering.{Loaded, last_after, after, IsNamed, AsksToPut}
 
 -- of what was put only the last byte is kept
 abbrev pub outcome_of : Served → Outcome
@@ -45,6 +45,7 @@ pub record FailsIn {S : Type 0} (took : S → List ℕ → S → Type 0) (served
 
 -- so it was with an instruction, behind whose service the program stands
 pub record FailsInTurn {S : Type 0} (took : S → List ℕ → S → Type 0) (b c : Loaded) (old new : S) : Type 0 where
+  pub asks : AsksToPut b.names b.state
   pub front : List ℕ
   pub rest : List ℕ
   pub due : (act b.names b.state).output ≡ front ++ rest

@@ -1,9 +1,10 @@
 //! A program in the machine, and its run.
 
-ghost use Rattle.std.specs.Prelude.{◌≡◌, ◌<◌, ◌≤◌, length, None, Some, slice_get, IfOk, OnOk, OnErr, IfSome};
+ghost use Rattle.std.specs.Prelude.{◌≡◌, ◌+◌, ◌<◌, ◌≤◌, length, None, Some, slice_get, IfOk, OnOk, OnErr, IfSome};
 ghost use Rattle.t_ports.specs.Causes.{HasCause, Rose};
+ghost use Rattle.machine_services.specs.declared.exit.Exit.{Exit};
 ghost use Rattle.machine_services.specs.Runs.{act};
-ghost use Rattle.orbit_monitor.specs.Answering.{run_on, after, exit_of, IsNamed, AnswerIsNamed, IfSink, IfRan, FailsAtPut};
+ghost use Rattle.orbit_monitor.specs.Answering.{run_on, pieces_next, pieces_within, after, exit_of, IsNamed, AnswerIsNamed, IfSink, IfRan, FailsAtPut};
 ghost use Rattle.orbit_monitor.specs.Turn.{OutcomeIsNamed, settled, FailsInTurn};
 
 use crate::end::End;
@@ -77,6 +78,7 @@ fn turn<S: Sink>(boot: &mut Boot, out: &mut S) -> Result<Option<Exit>, Failed>
     ensures took { OnOk result (S.took out.old (act boot.old.names boot.old.state).output out.new) }
     ensures named { IfOk result (λ e. IfSome e (IsNamed boot.old.names)) }
     ensures part { OnErr result (FailsInTurn S.took boot.old boot.new out.old out.new) }
+    ensures pieces { S.pieces out.new ≤ S.pieces out.old + pieces_next boot.old.names boot.old.state None }
     ensures cause { HasCause (S.faults out.old) (S.faults out.new) result }
 {
     let at = boot.machine.pc();
@@ -106,6 +108,9 @@ pub fn run<S: Sink>(boot: &mut Boot, steps: u64, out: &mut S) -> End
     ensures names { boot.new.names ≡ boot.old.names }
     ensures named { AnswerIsNamed boot.new.names result }
     ensures sink { IfSink result (FailsAtPut S.took boot.old steps boot.new out.old out.new) }
+    // Only a service that puts puts, and it puts one piece.
+    ensures pieces { S.pieces out.new ≤ S.pieces out.old + pieces_within boot.old steps }
+    ensures ended { (exit : Exit) → boot.old.end ≡ Some exit → out.new ≡ out.old }
     ensures cause { IfSink result (Rose (S.faults out.old) (S.faults out.new)) }
     ensures later { S.faults out.old ≤ S.faults out.new }
     ensures stands { IfRan result (S.faults out.new ≡ S.faults out.old) }

@@ -1,9 +1,10 @@
 //! The services for which a program asks by TRAP.
 
-ghost use Rattle.std.specs.Prelude.{◌≡◌, ◌≤◌, length, slice_index, option_map, IfOk, OnOk, OnErr};
+ghost use Rattle.std.specs.Prelude.{◌≡◌, ◌+◌, ◌≤◌, length, slice_index, option_map, IfOk, OnOk, OnErr};
 ghost use Rattle.t_ports.specs.Causes.{HasCause};
 ghost use Rattle.word_faces.specs.Operands.{fault_of, text_at, string_at, string_of};
 ghost use Rattle.machine_services.specs.Services.{Served, Puts, halt, put_character, put_fixnum, raise_fault, report_full, put_string, service, reader_of, serve};
+ghost use Rattle.orbit_monitor.specs.Answering.{pieces_served};
 ghost use Rattle.orbit_monitor.specs.Turn.{outcome_of, put_of, FailsIn, OutcomeIsNamed};
 
 use crate::faces::{character, count, data, face, fixnum, word_in};
@@ -28,6 +29,7 @@ fn put<S: Sink>(bytes: &[u8], out: &mut S) -> Result<Outcome, Failed>
     ensures outcome { IfOk result (λ o. o ≡ outcome_of (Puts bytes.now)) }
     ensures took { OnOk result (S.took out.old bytes.now out.new) }
     ensures part { OnErr result (FailsIn S.took (Puts bytes.now) out.old out.new) }
+    ensures pieces { S.pieces out.new ≤ S.pieces out.old + pieces_served (Puts bytes.now) }
     ensures cause { HasCause (S.faults out.old) (S.faults out.new) result }
 {
     out.put(bytes)?;
@@ -48,6 +50,7 @@ fn put_character<S: Sink>(word: u32, out: &mut S) -> Result<Outcome, Failed>
     ensures outcome { IfOk result (λ o. o ≡ outcome_of (put_character word)) }
     ensures took { OnOk result (S.took out.old (put_of (put_character word)) out.new) }
     ensures part { OnErr result (FailsIn S.took (put_character word) out.old out.new) }
+    ensures pieces { S.pieces out.new ≤ S.pieces out.old + pieces_served (put_character word) }
     ensures cause { HasCause (S.faults out.old) (S.faults out.new) result }
 {
     match character(word) {
@@ -60,6 +63,7 @@ fn put_fixnum<S: Sink>(word: u32, out: &mut S) -> Result<Outcome, Failed>
     ensures outcome { IfOk result (λ o. o ≡ outcome_of (put_fixnum word)) }
     ensures took { OnOk result (S.took out.old (put_of (put_fixnum word)) out.new) }
     ensures part { OnErr result (FailsIn S.took (put_fixnum word) out.old out.new) }
+    ensures pieces { S.pieces out.new ≤ S.pieces out.old + pieces_served (put_fixnum word) }
     ensures cause { HasCause (S.faults out.old) (S.faults out.new) result }
 {
     match fixnum(word) {
@@ -149,6 +153,7 @@ fn put_string<S: Sink>(machine: &Machine, out: &mut S) -> Result<Outcome, Failed
     ensures outcome { IfOk result (λ o. o ≡ outcome_of (put_string (reader_of machine.now.storage) (slice_index machine.now.registers.d 0))) }
     ensures took { OnOk result (S.took out.old (put_of (put_string (reader_of machine.now.storage) (slice_index machine.now.registers.d 0))) out.new) }
     ensures part { OnErr result (FailsIn S.took (put_string (reader_of machine.now.storage) (slice_index machine.now.registers.d 0)) out.old out.new) }
+    ensures pieces { S.pieces out.new ≤ S.pieces out.old + pieces_served (put_string (reader_of machine.now.storage) (slice_index machine.now.registers.d 0)) }
     ensures cause { HasCause (S.faults out.old) (S.faults out.new) result }
 {
     match string(machine, machine.d(0)) {
@@ -167,6 +172,7 @@ pub fn serve<S: Sink>(
     ensures outcome { IfOk result (λ o. o ≡ outcome_of (serve names.now machine.now vector)) }
     ensures took { OnOk result (S.took out.old (put_of (serve names.now machine.now vector)) out.new) }
     ensures part { OnErr result (FailsIn S.took (serve names.now machine.now vector) out.old out.new) }
+    ensures pieces { S.pieces out.new ≤ S.pieces out.old + pieces_served (serve names.now machine.now vector) }
     ensures named { IfOk result (OutcomeIsNamed names.now) }
     ensures cause { HasCause (S.faults out.old) (S.faults out.new) result }
 {

@@ -72,10 +72,14 @@ pub trait Sink {
     /// How many puts failed, up to the last number of the count.
     ghost faults: { Self → ℕ };
 
+    /// How many pieces were put, as far as the sink counts them.
+    ghost pieces: { Self → ℕ };
+
     /// Takes the whole piece, or as many of its first bytes as the error says.
     fn put(&mut self, bytes: &[u8]) -> Result<(), Failed>
         ensures ok { OnOk result (took self.old bytes.now self.new) }
         ensures err { IfErr result (λ e. (e.taken ≤ length bytes.now) × took self.old (take e.taken bytes.now) self.new) }
+        ensures piece { pieces self.new ≤ pieces self.old + 1 }
         ensures cause { HasCause (faults self.old) (faults self.new) result };
 
     /// A sink took nothing to become itself.
@@ -93,6 +97,8 @@ impl Sink for NullSink {
     ghost took = { λ _ _ _. Unit {0} };
 
     ghost faults = { λ _. 0 };
+
+    ghost pieces = { λ _. 0 };
 
     ghost took_nothing = { λ _. tt };
 

@@ -3,7 +3,7 @@ use Rattle.orbit_monitor.specs.declared.end.End.{End}
 use Rattle.orbit_monitor.specs.declared.end.End.TheVariants as answer
 use Rattle.machine_services.specs.Runs.{Progress}
 use Rattle.orbit_monitor.specs.Answering.{Loaded, after, IfRan}
-use Rattle.orbit_monitor.proofs.Turns.{run_on-ended, goes_further, Ends, ends_here, fails_here}
+use Rattle.orbit_monitor.proofs.Turns.{run_on-ended, pieces-next, pieces-up, goes_further, Ends, ends_here, fails_here}
 use Rattle.orbit_monitor.proofs.monitor.run.Goals as goal
 
 if_ran : (x : End) (P : Type 0) → P → IfRan x P
@@ -56,8 +56,23 @@ pub returns-in-Err-clause-sink : goal.returns-in-Err-clause-sink
 returns-in-Err-clause-sink g c =
     fails_here g.S.Sink.took g.met.S.Sink.took_both c.args.boot.now c.loop-done.boot c.turn.new.boot c.loop-done._done c.args.steps c.args.out.now c.loop-done.out c.turn.new.out c.loop-done.invariant.at (omega arith) c.in-Err.ensures.part
 
+pub returns-in-Ok-Some-clause-pieces : goal.returns-in-Ok-Some-clause-pieces
+returns-in-Ok-Some-clause-pieces g c =
+    let next = pieces-next c.args.boot.now c.loop-done.boot c.loop-done._done c.loop-done.invariant.at.loaded c.loop-done.invariant.at.going in
+    let up = pieces-up c.args.boot.now (c.loop-done._done + 1) c.args.steps (omega arith) in
+    omega (arith, next, up, c.loop-done.invariant.pieces, c.turn.ensures.pieces)
+
+pub returns-in-Err-clause-pieces : goal.returns-in-Err-clause-pieces
+returns-in-Err-clause-pieces g c =
+    let next = pieces-next c.args.boot.now c.loop-done.boot c.loop-done._done c.loop-done.invariant.at.loaded c.loop-done.invariant.at.going in
+    let up = pieces-up c.args.boot.now (c.loop-done._done + 1) c.args.steps (omega arith) in
+    omega (arith, next, up, c.loop-done.invariant.pieces, c.turn.ensures.pieces)
+
 pub loop-done-preserved : goal.loop-done-preserved
 loop-done-preserved g c = record {
   at = goes_further g.S.Sink.took g.met.S.Sink.took_both c.args.boot.now c.loop-done.boot c.turn.new.boot c.loop-done._done c.args.out.now c.loop-done.out c.turn.new.out c.loop-done.invariant.at c.in-Ok-None.ensures.loaded (sym c.in-Ok-None.field-0-is ∙ c.in-Ok-None.ensures.end) c.in-Ok-None.ensures.took;
   stands = c.in-Ok-None.ensures.cause.kept ∙ c.loop-done.invariant.stands;
+  pieces =
+      let next = pieces-next c.args.boot.now c.loop-done.boot c.loop-done._done c.loop-done.invariant.at.loaded c.loop-done.invariant.at.going in
+      omega (arith, next, c.loop-done.invariant.pieces, c.turn.ensures.pieces);
 }
