@@ -1,0 +1,5 @@
+pub mod Blocks
+pub mod Keepers
+pub mod Matching
+pub mod Stepping
+pub mod Keeping

@@ -1,0 +1,10 @@
+//! Laws of homes.
+
+ghost use Rattle.trace_regs.specs.Homes.{HomesRunAlike, HomesKeep};
+
+/// Words and the same words with homes run alike, step for step, wherever variables that live at once have different homes outside the
+/// stack and the run of the words is safe. So the one keeps the meaning of the other, with the same moves.
+pub fn homes_keep_meaning()
+    ensures alike { HomesRunAlike }
+    ensures keeps { HomesKeep }
+{}

@@ -1,0 +1,4 @@
+//! Homes of variables: where each variable of a program of words is kept on the machine.
+#![tactic(auto)]
+
+pub mod laws;
