@@ -114,7 +114,7 @@ module _ (words : Words) (placed : Placed) (sizes : Sizes) (serves : Serves word
       let stand = stands found.0.ops.items found.0.last s.place line found.2 in
       record { block = found.0; found = found.1; stand = stand; lives = live_of s.block s.place found.0 (line ∷ stand.rest) found.1 stand.here }
 
-  module _ (s : State) (line : Line) (at : Spot s line) (f : Env Word) (agree : Agree homes s.env f (needed live (line ∷ (at.stand).rest))) where
+  module _ (X : Type 0) (s : State) (line : Line) (at : Spot s line) (e f : Env X) (agree : Agree homes e f (needed live (line ∷ (at.stand).rest))) where
     abbrev rest : List Line
     rest = (at.stand).rest
 
@@ -124,20 +124,20 @@ module _ (words : Words) (placed : Placed) (sizes : Sizes) (serves : Serves word
     abbrev turned : List Var
     turned = flat_map (vars_at live) (exits_of line)
 
-    pub agree_uses : Agree homes s.env f (flat_map operand_var (operands_of line))
+    pub agree_uses : Agree homes e f (flat_map operand_var (operands_of line))
     agree_uses v c = agree v (Contains-append_left (uses ++ turned) (without (binds_of line) (needed live rest)) v (Contains-append_left uses turned v c))
 
-    agree_turned : Agree homes s.env f turned
+    agree_turned : Agree homes e f turned
     agree_turned v c = agree v (Contains-append_left (uses ++ turned) (without (binds_of line) (needed live rest)) v (Contains-append_right uses turned v c))
 
     binding : (vars : List Var) → IsOpBinding line vars → binds_of line ≡ vars
     binding vars o = ap binds_of o.is ∙ o.binds
 
-    agree_without : (vars : List Var) → IsOpBinding line vars → Agree homes s.env f (without vars (needed live rest))
+    agree_without : (vars : List Var) → IsOpBinding line vars → Agree homes e f (without vars (needed live rest))
     agree_without vars o v c =
         agree v (Contains-append_right (uses ++ turned) (without (binds_of line) (needed live rest)) v (subst (λ (l : List Var). Contains (without l (needed live rest)) v) (sym (binding vars o)) c))
 
-    agree_rest : IsOpBinding line [] → Agree homes s.env f (needed live rest)
+    agree_rest : IsOpBinding line [] → Agree homes e f (needed live rest)
     agree_rest o v c = agree_without [] o v (without_none (needed live rest) v c)
 
     pub live_next : (vars : List Var) → IsOpBinding line vars → live_at s.block (s.place + 1) ≡ needed live rest
@@ -150,16 +150,16 @@ module _ (words : Words) (placed : Placed) (sizes : Sizes) (serves : Serves word
         let here : IsLodgedFrom live h.depths homes l.0 (line ∷ rest) = subst (λ (ls : List Line). IsLodgedFrom live h.depths homes l.0 ls) (at.stand).here l.1 in
         here.1.0
 
-    pub after_bind : (to : Var) (x : Word) → IsOpBinding line (to ∷ []) → Agree homes ((Own to.0, x) ∷ s.env) ((keeper_of homes to, x) ∷ f) (live_at s.block (s.place + 1))
+    pub after_bind : (to : Var) (x : X) → IsOpBinding line (to ∷ []) → Agree homes ((Own to.0, x) ∷ e) ((keeper_of homes to, x) ∷ f) (live_at s.block (s.place + 1))
     after_bind to x o =
         let parted : AreApart homes (to ∷ needed live rest) = subst (λ (l : List Var). AreApart homes (l ++ needed live rest)) (binding (to ∷ []) o) apart in
-        subst (λ (vars : List Var). Agree homes ((Own to.0, x) ∷ s.env) ((keeper_of homes to, x) ∷ f) vars) (sym (live_next (to ∷ []) o))
-        (agree_bound homes s.env f to x (needed live rest) parted (agree_without (to ∷ []) o))
+        subst (λ (vars : List Var). Agree homes ((Own to.0, x) ∷ e) ((keeper_of homes to, x) ∷ f) vars) (sym (live_next (to ∷ []) o))
+        (agree_bound homes e f to x (needed live rest) parted (agree_without (to ∷ []) o))
 
-    pub after_none : IsOpBinding line [] → Agree homes s.env f (live_at s.block (s.place + 1))
-    after_none o = subst (λ (vars : List Var). Agree homes s.env f vars) (sym (live_next [] o)) (agree_rest o)
+    pub after_none : IsOpBinding line [] → Agree homes e f (live_at s.block (s.place + 1))
+    after_none o = subst (λ (vars : List Var). Agree homes e f vars) (sym (live_next [] o)) (agree_rest o)
 
-    pub after_turn : (b : ℕ) → Contains (exits_of line) b → Agree homes s.env f (live_at b 0)
+    pub after_turn : (b : ℕ) → Contains (exits_of line) b → Agree homes e f (live_at b 0)
     after_turn b c = by (slice_get placed.words.blocks.items b) opened
       where
         opened : IsSomeAnd (slice_get placed.words.blocks.items b) (λ (x : WordBlock). Includes (vars_at live b) (needed live (lines_of x)))
@@ -167,7 +167,7 @@ module _ (words : Words) (placed : Placed) (sizes : Sizes) (serves : Serves word
             All-contains (λ (k : ℕ). IsSomeAnd (slice_get placed.words.blocks.items k) (λ (x : WordBlock). Includes (vars_at live k) (needed live (lines_of x)))) (open_blocks placed.words) b
             ((serves.whole).lodgings.opened) (opened_by placed.words s.block s.place b at.block line at.found at.stand c)
 
-        by : (o : Option WordBlock) → IsSomeAnd o (λ (x : WordBlock). Includes (vars_at live b) (needed live (lines_of x))) → Agree homes s.env f (option_map_or (λ (x : WordBlock). needed live (lines_behind 0 x)) o [])
+        by : (o : Option WordBlock) → IsSomeAnd o (λ (x : WordBlock). Includes (vars_at live b) (needed live (lines_of x))) → Agree homes e f (option_map_or (λ (x : WordBlock). needed live (lines_behind 0 x)) o [])
         by None h = absurd h
         by (Some x) h = λ v d. agree_turned v (contains_flat (vars_at live) (exits_of line) b v c (All-contains (Contains (vars_at live b)) (needed live (lines_of x)) v h d))
 
@@ -203,19 +203,19 @@ module _ (words : Words) (placed : Placed) (sizes : Sizes) (serves : Serves word
     next_after : (a b : Effect) → Same homes (word_at m s) placed.words.blocks.items line a b → Next (changed s a) (changed t b) more
     next_after a b (Bind to x o) =
         let k : Keeper = keeper_of homes to in
-        record { env = (k, x) ∷ f; is = ap on (hold_outside t k x (home_outside to)); agree = after_bind s line at f agree to x o }
+        record { env = (k, x) ∷ f; is = ap on (hold_outside t k x (home_outside to)); agree = after_bind Word s line at s.env f agree to x o }
     next_after a b (Store i x w found o) =
-        record { env = f; is = ap (λ (r : Regions Word). on (record t { storage = r })) (store_more s.storage more i x (unmarked_at i w found)); agree = after_none s line at f agree o }
+        record { env = f; is = ap (λ (r : Regions Word). on (record t { storage = r })) (store_more s.storage more i x (unmarked_at i w found)); agree = after_none Word s line at s.env f agree o }
     next_after a b (Take to bytes o) =
         let k : Keeper = keeper_of homes to in
         record {
           env = (k, Number s.next) ∷ f;
           is = ap (λ (u : State). on (record u { next = s.next + bytes })) (hold_outside t k (Number s.next) (home_outside to));
-          agree = after_bind s line at f agree to (Number s.next) o;
+          agree = after_bind Word s line at s.env f agree to (Number s.next) o;
         }
-    next_after a b (Top top o) = record { env = f; is = refl; agree = after_none s line at f agree o }
-    next_after a b (Put bytes o) = record { env = f; is = refl; agree = after_none s line at f agree o }
-    next_after a b (Turn block c) = record { env = f; is = refl; agree = after_turn s line at f agree block c }
+    next_after a b (Top top o) = record { env = f; is = refl; agree = after_none Word s line at s.env f agree o }
+    next_after a b (Put bytes o) = record { env = f; is = refl; agree = after_none Word s line at s.env f agree o }
+    next_after a b (Turn block c) = record { env = f; is = refl; agree = after_turn Word s line at s.env f agree block c }
     next_after a b (Enter block target e g found p) =
         let left : hold_all (record s { env = [] }) e ≡ record s { env = all_kept [] e } = hold_all_outside (record s { env = [] }) e (own_outside target.params e g p) in
         let right : hold_all (record t { env = [] }) g ≡ record t { env = all_kept [] g } = hold_all_outside (record t { env = [] }) g (homes_outside target.params e g p) in
@@ -232,7 +232,7 @@ module _ (words : Words) (placed : Placed) (sizes : Sizes) (serves : Serves word
 
     pub next_line : ((done m s (Some line)).end ≡ Some Broken → ⊥) → Next (done m s (Some line)) (done n t (Some line)) more
     next_line sound =
-        let meets = line_meets words placed sizes serves s more f place line (words_same words placed sizes serves s more f place (operands_of line) (agree_uses s line at f agree)) in
+        let meets = line_meets words placed sizes serves s more f place line (words_same words placed sizes serves s more f place (operands_of line) (agree_uses Word s line at s.env f agree)) in
         let next = next_meets (line_effect m s line) (line_effect n t line) meets sound in
         record { env = next.env; is = ap (moving (moves_of line)) next.is; agree = next.agree }
 
