@@ -5,3 +5,5 @@ pub mod Stepping
 pub mod Keeping
 pub mod Stamping
 pub mod StampedKeeping
+pub mod Homing
+pub mod WholeCopies

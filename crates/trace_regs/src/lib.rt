@@ -2,3 +2,6 @@
 #![tactic(auto)]
 
 pub mod laws;
+mod static_homes;
+
+pub use crate::static_homes::assign;
