@@ -7,3 +7,5 @@ pub mod Stamping
 pub mod StampedKeeping
 pub mod Homing
 pub mod WholeCopies
+pub mod Serving
+pub mod Promising

@@ -32,7 +32,7 @@ copies_length (x ∷ xs) [] h = absurd h
 copies_length (x ∷ xs) (y ∷ ys) h = ap suc (copies_length xs ys h.1)
 
 -- what is named in the lines
-lines_name : {X : Type 0} (f : Line → List X) (xs ys : List WordBlock) → AreCopies xs ys → flat_map (λ (b : WordBlock). flat_map f (lines_of b)) ys ≡ flat_map (λ (b : WordBlock). flat_map f (lines_of b)) xs
+pub lines_name : {X : Type 0} (f : Line → List X) (xs ys : List WordBlock) → AreCopies xs ys → flat_map (λ (b : WordBlock). flat_map f (lines_of b)) ys ≡ flat_map (λ (b : WordBlock). flat_map f (lines_of b)) xs
 lines_name f [] [] h = refl
 lines_name f [] (y ∷ ys) h = absurd h
 lines_name f (x ∷ xs) [] h = absurd h

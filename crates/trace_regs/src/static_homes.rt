@@ -3,6 +3,8 @@ ghost use Rattle.std.specs.Prelude.{◌≡◌, ◌≢◌, ◌+◌, ◌++◌, ◌
 ghost use Rattle.word_ir.specs.Lines.{op_binds};
 ghost use Rattle.word_ir.specs.Whole.{binders_in, binders, most_statics, IsWhole};
 ghost use Rattle.word_ir.specs.WholePlaced.{statics_with_homes};
+ghost use Rattle.trace_regs.specs.Homes.{Serves};
+ghost use Rattle.trace_regs.specs.Promises.{KeepsRuns, KeepsStampedRuns, KeepsBulk};
 ghost use Rattle.trace_regs.specs.Assignment.{UsesAreBound, with_home, HaveHomes, IsAssigned};
 
 use std::alloc::Global;
@@ -78,12 +80,12 @@ fn homes_from(alloc: Global, low: u32, vars: &[Var]) -> Result<Vec<Home>, Memory
     Ok(homes)
 }
 
-/// The program with a static word as the home of each variable. The only error is the want of memory.
-pub fn assign(alloc: Global, words: &Words) -> Result<Placed, Memory>
+/// The program with more static words, and a static word of its own as the home of each variable that is bound. A number that no
+/// variable has may have a home too, which nothing uses.
+fn with_static_homes(alloc: Global, words: &Words) -> Result<Placed, Memory>
     requires whole { IsWhole words.now }
-    requires bound { UsesAreBound words.now }
     requires few { statics_with_homes words.now ≤ most_statics }
-    ensures assigned { IfOk result (λ placed. IsAssigned words.now placed) }
+    ensures { IfOk result (λ placed. IsAssigned words.now placed) }
 {
     let vars = binders(alloc, words)?;
     let own = words.statics.len();
@@ -92,4 +94,20 @@ pub fn assign(alloc: Global, words: &Words) -> Result<Placed, Memory>
     let count = own + vars.len();
     words.statics.resize(count + count % 2, StaticWord::Word(0))?;
     Ok(Placed { words, at })
+}
+
+/// The program with a home for each of its variables: a whole one, whose runs are those of the words, step for step, where they are safe. Variables that
+/// live at once have different homes, and no home is in the stack. Blocks and shared parts stay as they are; the static words are
+/// more by the variables that are bound, and one more where their count would be odd. The only error is the want of memory.
+pub fn assign(alloc: Global, words: &Words) -> Result<Placed, Memory>
+    requires whole { IsWhole words.now }
+    requires bound { UsesAreBound words.now }
+    requires few { statics_with_homes words.now ≤ most_statics }
+    ensures serves { IfOk result (λ placed. Serves words.now placed) }
+    ensures keeps { IfOk result (λ placed. KeepsRuns words.now placed) }
+    ensures stamped { IfOk result (λ placed. KeepsStampedRuns words.now placed) }
+    ensures bulk { IfOk result (λ placed. KeepsBulk words.now placed) }
+{
+    let placed = with_static_homes(alloc, words)?;
+    Ok(placed)
 }

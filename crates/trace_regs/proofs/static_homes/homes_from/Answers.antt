@@ -2,7 +2,6 @@ use Rattle.std.proofs.Common.{◌≡◌, ◌+◌, ◌<◌, length, get_or, arith
 use Rattle.std.proofs.lemmas.Option.{slice_get-get_or}
 use Rattle.t_base.specs.declared.basics.Var.{Var}
 use Rattle.trace_regs.proofs.Homing.{one_more}
-use Rattle.trace_regs.proofs.WholeCopies.{longer_whole}
 use Rattle.trace_regs.proofs.static_homes.homes_from.Goals as goal
 
 pub loop-v-preserved : goal.loop-v-preserved
