@@ -1,5 +1,5 @@
 -- Keepers of words, and what two environments keep alike: one by variables themselves, the other by their homes.
-use Rattle.std.proofs.Common.{◌≡◌, ◌≢◌, ℕ, zero, suc, ◌<◌, ◌==◌, Bool, true, false, not, ◌||◌, if◌then◌else◌, List, [], ◌∷◌, ◌++◌, length, get_or, slice_get, Option, Some, None, All, Contains, refl, sym, ap, subst, ◌∙◌, arith, ◌⊎◌, inl, inr}
+use Rattle.std.proofs.Common.{◌≡◌, ◌≢◌, ℕ, zero, suc, ◌<◌, ◌==◌, Bool, true, false, not, ◌||◌, if◌then◌else◌, List, [], ◌∷◌, length, get_or, slice_get, Some, All, Contains, refl, sym, ap, subst, ◌∙◌, arith, ◌⊎◌, inl, inr}
 use Rattle.std.specs.Prelude.{filter}
 use Rattle.std.specs.List.{list_any}
 use Rattle.std.specs.Option.{option_map_or}
@@ -10,7 +10,7 @@ use Rattle.word_ir.specs.declared.placed.Home.TheVariants as home
 use Rattle.word_ir.specs.Word.{Word}
 use Rattle.word_ir.specs.State.{Keeper, Own, At, keeper_of, same_home, same_keeper, Env, kept, State, held, has_room, hold, hold_all, is_in_frame}
 use Rattle.word_ir.specs.WholePlaced.{same_var, without, AreApart}
-use Rattle.word_ir.proofs.WholeLemmas.{not_so, not_true, own_number, same_var_is}
+use Rattle.word_ir.proofs.WholeLemmas.{not_so, own_number, same_var_is}
 use Rattle.trace_regs.specs.Homes.{IsOutside}
 
 -- ---- choices
@@ -125,6 +125,7 @@ own_apart v w ne e = ne (var_is v w (own_is v.0 w.0 e))
   where
     own_is : (i j : ℕ) → Own i ≡ Own j → i ≡ j
     own_is i j e = cc
+
     var_is : (v w : Var) → v.0 ≡ w.0 → v ≡ w
     var_is v w e = ap (λ (n : ℕ). record { 0 = n }) e
 
@@ -150,6 +151,7 @@ contains_filter p (w ∷ vars) v zero lt e h = here (p w) refl
   where
     passes : p w ≡ true
     passes = ap p e ∙ h
+
     here : (b : Bool) → p w ≡ b → Contains (filter p (w ∷ vars)) v
     here true q = rw q (0, omega arith, e)
     here false q = absurd (true≢false (sym passes ∙ q))

@@ -1,8 +1,8 @@
 -- The run of words with homes is the run of the words.
-use Rattle.std.proofs.Common.{◌≡◌, ℕ, zero, suc, ◌+◌, ◌*◌, ◌/◌, ◌≤◌, ◌⊎◌, List, [], ◌∷◌, ◌++◌, length, map, take, drop, replicate, Option, Some, None, refl, sym, ap, subst, ◌∙◌, arith, inl, inr, ⊎_elim}
+use Rattle.std.proofs.Common.{◌≡◌, ℕ, zero, suc, ◌+◌, ◌*◌, ◌/◌, ◌≤◌, List, [], ◌++◌, length, map, drop, replicate, Option, Some, None, refl, sym, ap, subst, ◌∙◌, arith, inl, inr}
 use Rattle.std.proofs.lemmas.List.{take-append-drop, map-append}
-use Rattle.program_runs.specs.Runs.{End, Broken, Run, Observation, IsPrefix}
-use Rattle.program_runs.specs.Keeps.{KeepsAlike, KeepsTo, EndsWithin, IsSafe, SameAnswer}
+use Rattle.program_runs.specs.Runs.{End, Broken, Run, Observation}
+use Rattle.program_runs.specs.Keeps.{KeepsAlike, EndsWithin, IsSafe}
 use Rattle.program_runs.specs.Follows.{after, run_of}
 use Rattle.program_runs.proofs.Prefixes.{prefix_of_eq}
 use Rattle.word_ir.specs.declared.placed.Placed.{Placed}
@@ -16,7 +16,6 @@ use Rattle.word_ir.specs.Ranges.{HasWords, IsInPlace}
 use Rattle.word_ir.proofs.Places.{start_in_place, step_in_place}
 use Rattle.word_ir.proofs.Steady.{step_fixed}
 use Rattle.trace_regs.specs.Homes.{Serves}
-use Rattle.trace_regs.proofs.Matching.{beside}
 use Rattle.trace_regs.proofs.Stepping.{Next, next_step}
 
 -- ---- runs that are the same

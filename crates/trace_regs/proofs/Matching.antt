@@ -1,14 +1,14 @@
 -- What a line does with homes is what it does without, or the run without them breaks.
-use Rattle.std.proofs.Common.{◌≡◌, ◌≢◌, ℕ, zero, suc, ◌+◌, ◌*◌, ◌%◌, ◌/◌, ◌<◌, ◌==◌, nat_lt, nat_le, Bool, true, false, ◌&&◌, if◌then◌else◌, List, [], ◌∷◌, ◌++◌, length, map, slice_get, Option, Some, None, is_some, option_map, option_and_then, All, Contains, refl, sym, ap, subst, ◌∙◌, arith}
+use Rattle.std.proofs.Common.{◌≡◌, ℕ, zero, suc, ◌+◌, ◌*◌, ◌%◌, ◌/◌, ◌==◌, nat_lt, Bool, true, false, if◌then◌else◌, List, [], ◌∷◌, ◌++◌, length, map, slice_get, Option, Some, None, is_some, option_map, option_and_then, Contains, refl, sym, ap, subst, ◌∙◌, arith}
 use Rattle.std.specs.Fmt.{signed_decimal}
 use Rattle.std.specs.List.{AllByRecursion, flat_map}
 use Rattle.std.proofs.lemmas.List.Elements.{Contains-append_left, Contains-append_right}
 use Rattle.t_base.specs.declared.basics.Var.{Var}
 use Rattle.t_base.specs.declared.faults.Fault.{Fault}
-use Rattle.program_runs.specs.Runs.{End, Value, Faulted, Full, Broken}
+use Rattle.program_runs.specs.Runs.{End, Value, Faulted}
 use Rattle.word_faces.specs.Faces.{fixnum_of, character_of, face_of, shown_of}
 use Rattle.word_faces.specs.Operands.{fault_of, string_of}
-use Rattle.word_faces.specs.Laws.{Alike, ReadsAlike}
+use Rattle.word_faces.specs.Laws.{Alike}
 use Rattle.word_faces.proofs.Alike.{alike_same, alike_map, alike_then, faces_read_alike, strings_read_alike}
 use Rattle.word_ir.specs.declared.operands.Operand.{Operand}
 use Rattle.word_ir.specs.declared.operands.Operand.TheVariants as operand
@@ -22,16 +22,15 @@ use Rattle.word_ir.specs.declared.words.WordEnd.{WordEnd}
 use Rattle.word_ir.specs.declared.words.WordEnd.TheVariants as last
 use Rattle.word_ir.specs.declared.words.WordBlock.{WordBlock}
 use Rattle.word_ir.specs.declared.words.Words.{Words}
-use Rattle.word_ir.specs.Word.{Word, Number, Code, wrap, moved, number_of, block_of, byte_of}
-use Rattle.word_ir.specs.Storage.{Sizes, Regions, byte_at, bytes_at, followed_by}
+use Rattle.word_ir.specs.Word.{Word, Number, moved, number_of, block_of, byte_of}
+use Rattle.word_ir.specs.Storage.{Sizes, byte_at, followed_by}
 use Rattle.word_ir.specs.Computing.{Result, Gives, Over, Bad, computed, is_shift, compared, is_of_tag}
 use Rattle.word_ir.specs.Names.{image_names}
 use Rattle.word_ir.specs.Lines.{Line, Op, Last, op_binds, exits_of, operands_of, op_operands, end_operands, operand_var}
-use Rattle.word_ir.specs.State.{Setting, Keeper, Own, At, keeper_of, Env, kept, State, word_at, held, has_room, is_in_frame}
-use Rattle.word_ir.specs.Effects.{Effect, Binds, Stores, Takes, SetsTop, Puts, Turns, Enters, Ends, breaks, or_broken, word_of, with_word, with_number, with_numbers, with_word_at, with_byte_at, kept_at, binds, paired, pairs_of, enters, bind_result, arith_effect, heap_room, stack_room, take_effect, push_effect, pop_effect, reset_effect, reader, names_of, with_one, with_two, raised, lacking, service_effect, store_effect, op_effect, turned, test_effect, jump_effect, block_at, end_effect, line_effect}
+use Rattle.word_ir.specs.State.{Setting, Keeper, Own, keeper_of, Env, State, word_at, has_room, is_in_frame}
+use Rattle.word_ir.specs.Effects.{Effect, Binds, Stores, Takes, SetsTop, Puts, Turns, Enters, Ends, breaks, or_broken, word_of, with_word, with_number, with_numbers, with_word_at, with_byte_at, kept_at, binds, pairs_of, enters, bind_result, arith_effect, heap_room, stack_room, take_effect, reset_effect, reader, names_of, with_one, with_two, raised, lacking, service_effect, store_effect, op_effect, turned, test_effect, jump_effect, block_at, end_effect, line_effect}
 use Rattle.word_ir.specs.Step.{words_in, placed_in}
 use Rattle.word_ir.specs.Ranges.{IsInPlace}
-use Rattle.word_ir.specs.Copies.{IsCopyOfBlock, AreCopies}
 use Rattle.word_ir.proofs.Apart.{homes_hide_nothing}
 use Rattle.trace_regs.specs.Homes.{Serves}
 use Rattle.trace_regs.proofs.Keepers.{chosen, refused, KeepsOutside, outside_at, held_outside, room_outside, frame_outside, Agree, Paired, Done, Both, Neither}

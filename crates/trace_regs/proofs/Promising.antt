@@ -1,15 +1,14 @@
 -- What follows of the program with homes.
-use Rattle.std.proofs.Common.{◌≡◌, ℕ, ◌+◌, ◌*◌, ◌≤◌, ◌%◌, List, [], ◌∷◌, length, refl, sym, ap, ◌∙◌, arith}
+use Rattle.std.proofs.Common.{◌≡◌, ℕ, ◌+◌, ◌*◌, ◌≤◌, List, [], ◌∷◌, length, refl, sym, ap, ◌∙◌, arith}
 use Rattle.std.specs.Prelude.{sum_by}
 use Rattle.std.proofs.lemmas.List.Sums.{sum_by-cons}
 use Rattle.t_base.specs.declared.basics.Var.{Var}
 use Rattle.word_ir.specs.declared.placed.Placed.{Placed}
-use Rattle.word_ir.specs.declared.words.StaticWord.TheVariants as first
 use Rattle.word_ir.specs.declared.words.WordBlock.{WordBlock}
 use Rattle.word_ir.specs.declared.words.Words.{Words}
 use Rattle.word_ir.specs.Lines.{Line, lines_of}
 use Rattle.word_ir.specs.Copies.{AreCopies, IsCopyOfBlock}
-use Rattle.word_ir.specs.Counts.{Weights, line_weight, block_weight, bulk_by}
+use Rattle.word_ir.specs.Counts.{Weights, line_weight, block_weight}
 use Rattle.word_ir.specs.Whole.{IsWhole, most_statics}
 use Rattle.word_ir.specs.WholePlaced.{statics_with_homes}
 use Rattle.trace_regs.specs.Assignment.{UsesAreBound, added, IsAssigned}

@@ -1,10 +1,10 @@
 -- Static words of their own serve as homes.
-use Rattle.std.proofs.Common.{◌≡◌, ◌≢◌, ℕ, zero, suc, ◌+◌, ◌-◌, ◌%◌, ◌<◌, ◌≤◌, Bool, List, [], ◌∷◌, ◌++◌, length, replicate, take, drop, get_or, slice_get, filter, true, false, Option, Some, None, All, AllPairs, Contains, refl, sym, ap, subst, ◌∙◌, arith, ⊎_elim, ◌⊎◌, inl, inr}
-use Rattle.std.specs.Prelude.{IsSomeAnd, slice_index}
+use Rattle.std.proofs.Common.{◌≡◌, ◌≢◌, ℕ, zero, suc, ◌+◌, ◌<◌, ◌≤◌, Bool, List, [], ◌∷◌, ◌++◌, length, replicate, take, drop, get_or, slice_get, filter, true, false, Option, Some, None, All, Contains, refl, sym, ap, subst, ◌∙◌, arith, ⊎_elim}
+use Rattle.std.specs.Prelude.{IsSomeAnd}
 use Rattle.std.specs.List.{AllByRecursion, flat_map}
 use Rattle.std.specs.Option.{option_map_or}
 use Rattle.std.proofs.Math.Seq.{drop-append_seam, take-append_seam}
-use Rattle.std.proofs.lemmas.List.Elements.{All-cons, All-head, All-tail, All-weaker, All-append, All-replicate, All-contains, All-contains_itself, Contains-append_left, Contains-append_right, Contains-append_cases}
+use Rattle.std.proofs.lemmas.List.Elements.{All-cons, All-weaker, All-append, All-replicate, All-contains, All-contains_itself, Contains-append_left, Contains-append_right, Contains-append_cases}
 use Rattle.std.proofs.lemmas.Option.{slice_get_within, slice_get-get_or}
 use Rattle.t_base.specs.declared.basics.Var.{Var}
 use Rattle.word_ir.specs.declared.operands.Operand.{Operand}
@@ -18,12 +18,12 @@ use Rattle.word_ir.specs.declared.words.WordBlock.{WordBlock}
 use Rattle.word_ir.specs.declared.words.Words.{Words}
 use Rattle.word_ir.specs.Lines.{Line, lines_of, operands_of, operand_static, uses_of, binds_of, exits_of, statics_of}
 use Rattle.word_ir.specs.State.{Keeper, Own, At, keeper_of}
-use Rattle.word_ir.specs.Whole.{each_line, open_blocks, taken_blocks, jumps_of, static_place, named_statics, IsOperand, IsStatic, IsLineThere, most_statics, HasPlaces, vars_at, binders_in, binders, Includes, IsWhole}
-use Rattle.word_ir.specs.WholePlaced.{IsHome, static_home, same_var, without, needed, AreApart, LiesWithin, LieWithin, depth_behind, AreLodged, IsLodgedFrom, HasLodgings, StandBehind, IsWholePlaced, IsPlacedOf, statics_with_homes}
+use Rattle.word_ir.specs.Whole.{each_line, open_blocks, static_place, named_statics, IsOperand, IsStatic, IsLineThere, most_statics, HasPlaces, vars_at, binders_in, binders, Includes, IsWhole}
+use Rattle.word_ir.specs.WholePlaced.{IsHome, static_home, without, needed, LiesWithin, depth_behind, AreLodged, IsLodgedFrom, HasLodgings, StandBehind, IsWholePlaced, IsPlacedOf, statics_with_homes}
 use Rattle.trace_regs.specs.Homes.{IsOutside, Serves}
-use Rattle.trace_regs.specs.Assignment.{UsesAreBound, spare, IsBetween, HaveHomes, added, IsAssigned}
+use Rattle.trace_regs.specs.Assignment.{UsesAreBound, IsBetween, HaveHomes, added, IsAssigned}
 use Rattle.trace_regs.proofs.Blocks.{contains_flat, contains_at}
-use Rattle.trace_regs.proofs.WholeCopies.{lines_name, IsLonger, statics_count, binders_same, opened_same, named_same, some_copy, longer_whole}
+use Rattle.trace_regs.proofs.WholeCopies.{lines_name, IsLonger, statics_count, binders_same, named_same, longer_whole}
 
 -- ---- lists
 

@@ -1,7 +1,6 @@
 -- The stamped run of words with homes is the stamped run of the words.
-use Rattle.std.proofs.Common.{◌≡◌, ℕ, zero, suc, ◌+◌, ◌-◌, ◌/◌, Bool, true, false, if◌then◌else◌, List, [], ◌∷◌, ◌++◌, length, map, drop, replicate, Option, Some, None, refl, sym, ap, subst, ◌∙◌, arith, length-append, length-drop}
+use Rattle.std.proofs.Common.{◌≡◌, ℕ, zero, suc, ◌+◌, ◌/◌, Bool, true, false, List, [], ◌∷◌, ◌++◌, length, drop, replicate, Option, Some, None, refl, sym, ap, subst, ◌∙◌, arith, length-append}
 use Rattle.std.specs.List.{AllByRecursion}
-use Rattle.std.proofs.lemmas.Bool.{true≢false}
 use Rattle.std.proofs.lemmas.List.{length-map, take-append-drop}
 use Rattle.program_runs.specs.Runs.{End, Broken}
 use Rattle.program_runs.specs.Keeps.{KeepsAlike, IsSafe}
@@ -11,11 +10,11 @@ use Rattle.word_ir.specs.declared.placed.Placed.{Placed}
 use Rattle.word_ir.specs.declared.words.StaticWord.{StaticWord}
 use Rattle.word_ir.specs.declared.words.Words.{Words}
 use Rattle.word_ir.specs.Word.{Word}
-use Rattle.word_ir.specs.Storage.{Sizes, Regions}
+use Rattle.word_ir.specs.Storage.{Sizes}
 use Rattle.word_ir.specs.Lines.{Line, line_at, operands_of}
-use Rattle.word_ir.specs.State.{Setting, Env, State, static_word, seen}
-use Rattle.word_ir.specs.Effects.{Effect, word_of, line_effect}
-use Rattle.word_ir.specs.Step.{words_in, placed_in, changed, broken, done, step}
+use Rattle.word_ir.specs.State.{Setting, Env, State, seen}
+use Rattle.word_ir.specs.Effects.{word_of, line_effect}
+use Rattle.word_ir.specs.Step.{words_in, placed_in, broken, done, step}
 use Rattle.word_ir.specs.Stamps.{Stamp, Marks, Stamped, unmarked, stamp_of, stamped_start, line_may, marked, counted, stamped_done, stamped_unless, stamped_step, stamped_seen, stamped_words_run, stamped_placed_run}
 use Rattle.t_base.specs.declared.basics.Var.{Var}
 use Rattle.word_ir.specs.WholePlaced.{needed}
@@ -28,8 +27,8 @@ use Rattle.trace_regs.specs.Homes.{Serves}
 use Rattle.trace_regs.proofs.Keepers.{chosen, refused, Agree}
 use Rattle.trace_regs.proofs.Blocks.{line_there}
 use Rattle.trace_regs.proofs.Matching.{beside, words_same, line_meets}
-use Rattle.trace_regs.proofs.Stepping.{step_done, live_at, Next, Spot, spot, agree_uses, next_step, with_more}
-use Rattle.trace_regs.proofs.Stamping.{marks_beside, stamps_same, line_may_same, MarksNext, marks_meet}
+use Rattle.trace_regs.proofs.Stepping.{step_done, live_at, Next, Spot, spot, agree_uses, next_step}
+use Rattle.trace_regs.proofs.Stamping.{marks_beside, stamps_same, line_may_same, marks_meet}
 use Rattle.trace_regs.proofs.Keeping.{more_words, start_next, same_runs_keep, same_runs_are_safe, unbroken}
 
 stamped_none : (t u : Stamped) (end : Option End) → end ≡ None → stamped_unless end t u ≡ u

@@ -1,10 +1,10 @@
 -- The marks of a stamped run with homes are those of the run without them.
-use Rattle.std.proofs.Common.{◌≡◌, ◌≢◌, ℕ, zero, suc, ◌+◌, ◌-◌, ◌*◌, ◌/◌, ◌%◌, ◌<◌, ◌==◌, nat_lt, Bool, true, false, ◌&&◌, if◌then◌else◌, List, [], ◌∷◌, ◌++◌, length, map, drop, replicate, slice_get, Option, Some, None, is_some, option_map, option_and_then, All, Contains, refl, sym, ap, subst, ◌∙◌, arith}
+use Rattle.std.proofs.Common.{◌≡◌, ℕ, zero, suc, ◌+◌, ◌%◌, ◌<◌, ◌==◌, nat_lt, Bool, true, false, ◌&&◌, if◌then◌else◌, List, [], ◌∷◌, ◌++◌, length, map, replicate, slice_get, Option, Some, None, option_and_then, refl, sym, ap, subst, ◌∙◌, arith}
 use Rattle.std.specs.List.{AllByRecursion, flat_map, list_all}
 use Rattle.std.specs.Option.{option_map_or}
 use Rattle.std.proofs.lemmas.List.Elements.{Contains-append_left, Contains-append_right}
 use Rattle.t_base.specs.declared.basics.Var.{Var}
-use Rattle.program_runs.specs.Runs.{End, Broken}
+use Rattle.program_runs.specs.Runs.{Broken}
 use Rattle.word_ir.specs.declared.operands.Operand.{Operand}
 use Rattle.word_ir.specs.declared.operands.Operand.TheVariants as operand
 use Rattle.word_ir.specs.declared.placed.Home.{Home}
@@ -12,24 +12,23 @@ use Rattle.word_ir.specs.declared.placed.Home.TheVariants as home
 use Rattle.word_ir.specs.declared.placed.Placed.{Placed}
 use Rattle.word_ir.specs.declared.words.WordOp.{WordOp}
 use Rattle.word_ir.specs.declared.words.WordOp.TheVariants as op
-use Rattle.word_ir.specs.declared.words.WordEnd.{WordEnd}
 use Rattle.word_ir.specs.declared.words.WordEnd.TheVariants as last
 use Rattle.word_ir.specs.declared.words.WordBlock.{WordBlock}
 use Rattle.word_ir.specs.declared.words.Words.{Words}
 use Rattle.word_ir.specs.Word.{Word, moved, number_of}
 use Rattle.word_ir.specs.Storage.{Sizes, Regions, STATICS_START, HEAP_START, STACK_START, place_from, long_at, is_in_stack}
-use Rattle.word_ir.specs.Lines.{Line, Op, Last, operands_of, op_operands, end_operands, operand_var}
+use Rattle.word_ir.specs.Lines.{Line, Op, Last, operands_of, op_operands, operand_var}
 use Rattle.word_ir.specs.State.{Setting, Keeper, Own, At, keeper_of, Env, kept, State, word_at}
-use Rattle.word_ir.specs.Effects.{Effect, Binds, Stores, Takes, SetsTop, Puts, Turns, Enters, Ends, word_of, block_at, line_effect}
+use Rattle.word_ir.specs.Effects.{Effect, word_of}
 use Rattle.word_ir.specs.Step.{words_in, placed_in, changed}
-use Rattle.word_ir.specs.Stamps.{Stamp, Live, Marks, birth_at, stamp_held, stamp_of, is_birth, is_written, reaches_by_stamp, reaches, number_at, if_number, may_load, may_load_byte, may_reset, op_may, is_held, operand_may, op_reads, end_reads, line_may, mark_stored, mark_held, mark_params, params_at, args_of, mark_top, bound_stamp, stored_stamp, marked}
+use Rattle.word_ir.specs.Stamps.{Stamp, Live, Marks, birth_at, stamp_held, stamp_of, is_birth, is_written, reaches_by_stamp, reaches, number_at, if_number, may_load, may_load_byte, may_reset, op_may, is_held, operand_may, op_reads, end_reads, line_may, mark_stored, mark_held, mark_params, params_at, args_of, bound_stamp, stored_stamp, marked}
 use Rattle.word_ir.specs.Ranges.{IsInPlace}
 use Rattle.word_ir.specs.Marked.{MarksFit}
 use Rattle.word_ir.specs.WholePlaced.{needed}
 use Rattle.trace_regs.specs.Homes.{Serves}
-use Rattle.trace_regs.proofs.Keepers.{KeepsOutside, outside_at, Agree, Paired, Done, Both, Neither, all_kept}
+use Rattle.trace_regs.proofs.Keepers.{KeepsOutside, outside_at, Agree, Paired, Done, Both, all_kept}
 use Rattle.trace_regs.proofs.Blocks.{by_copies}
-use Rattle.trace_regs.proofs.Matching.{Same, Bind, Store, Take, Top, Put, Turn, Enter, Finish, Meets, Broke, Goes, beside, SameWord}
+use Rattle.trace_regs.proofs.Matching.{Same, Bind, Store, Take, Top, Put, Turn, Enter, Finish, Meets, Broke, Goes, beside}
 use Rattle.trace_regs.proofs.Stepping.{with_more, store_more, long_within, live_at, Spot, after_bind, after_none, after_turn, after_enter}
 
 -- ---- stamps of storage

@@ -1,30 +1,28 @@
 -- A step with homes is the step without them, where that one doesn't break.
-use Rattle.std.proofs.Common.{◌≡◌, ◌≢◌, ℕ, zero, suc, ◌+◌, ◌-◌, ◌*◌, ◌/◌, ◌%◌, ◌<◌, ◌==◌, nat_lt, Bool, true, false, if◌then◌else◌, List, [], ◌∷◌, ◌++◌, length, map, take, drop, slice_get, slice_set, Option, Some, None, All, Contains, refl, sym, ap, subst, ◌∙◌, arith}
+use Rattle.std.proofs.Common.{◌≡◌, ℕ, zero, suc, ◌+◌, ◌%◌, ◌<◌, ◌==◌, nat_lt, Bool, true, false, if◌then◌else◌, List, [], ◌∷◌, ◌++◌, length, slice_get, slice_set, Option, Some, None, Contains, refl, sym, ap, subst, ◌∙◌, arith}
 use Rattle.std.specs.Prelude.{IsSomeAnd}
 use Rattle.std.specs.List.{flat_map}
 use Rattle.std.specs.Option.{option_map_or}
 use Rattle.std.proofs.lemmas.List.Elements.{Contains-append_left, Contains-append_right, All-contains}
-use Rattle.std.proofs.lemmas.Option.{slice_get_past}
 use Rattle.t_base.specs.declared.basics.Var.{Var}
 use Rattle.program_runs.specs.Runs.{End, Broken}
 use Rattle.word_ir.specs.declared.placed.Home.{Home}
 use Rattle.word_ir.specs.declared.placed.Placed.{Placed}
-use Rattle.word_ir.specs.declared.words.WordOp.{WordOp}
 use Rattle.word_ir.specs.declared.words.WordBlock.{WordBlock}
 use Rattle.word_ir.specs.declared.words.Words.{Words}
 use Rattle.word_ir.specs.Word.{Word, Number}
 use Rattle.word_ir.specs.Storage.{Sizes, Regions, STATICS_START, HEAP_START, STACK_START, place_from, long_at, with_long}
-use Rattle.word_ir.specs.Lines.{Line, Op, Last, line_in, line_at, lines_of, uses_of, binds_of, exits_of, operands_of, operand_var, moves_of, op_binds}
-use Rattle.word_ir.specs.State.{Setting, Keeper, Own, At, keeper_of, Env, kept, State, word_at, hold, hold_all}
-use Rattle.word_ir.specs.Effects.{Effect, Binds, Stores, Takes, SetsTop, Puts, Turns, Enters, Ends, line_effect}
-use Rattle.word_ir.specs.Step.{words_in, placed_in, on, into, changed, broken, moving, done, unless_ended, step}
+use Rattle.word_ir.specs.Lines.{Line, line_at, lines_of, uses_of, binds_of, exits_of, operands_of, operand_var, moves_of}
+use Rattle.word_ir.specs.State.{Setting, Keeper, Own, keeper_of, Env, State, word_at, hold_all}
+use Rattle.word_ir.specs.Effects.{Effect, line_effect}
+use Rattle.word_ir.specs.Step.{words_in, placed_in, on, into, changed, moving, done, unless_ended, step}
 use Rattle.word_ir.specs.Ranges.{IsInPlace}
 use Rattle.word_ir.specs.Whole.{vars_at, open_blocks, Includes}
 use Rattle.word_ir.specs.WholePlaced.{needed, without, AreApart, IsLodgedFrom, HasLodgings}
 use Rattle.trace_regs.specs.Homes.{Serves}
 use Rattle.trace_regs.proofs.Keepers.{KeepsOutside, outside_at, hold_outside, Agree, agree_bound, without_none, Paired, Done, Both, Neither, agree_paired, all_kept, AreOutside, hold_all_outside}
 use Rattle.trace_regs.proofs.Blocks.{line_there, lines_behind, Stands, stands, line_found, lodged_behind, contains_flat, opened_by}
-use Rattle.trace_regs.proofs.Matching.{IsOpBinding, Same, Bind, Store, Take, Top, Put, Turn, Enter, Finish, Meets, Broke, Goes, beside, outside, words_same, line_meets}
+use Rattle.trace_regs.proofs.Matching.{IsOpBinding, Same, Bind, Store, Take, Top, Put, Turn, Enter, Finish, Meets, Broke, Goes, beside, words_same, line_meets}
 
 -- ---- storage with more static words
 

@@ -1,20 +1,19 @@
 -- A copy of a whole program with more static words is whole.
-use Rattle.std.proofs.Common.{◌≡◌, ◌≢◌, ℕ, zero, suc, ◌+◌, ◌<◌, ◌≤◌, ◌^◌, Bool, List, [], ◌∷◌, ◌++◌, length, replicate, slice_get, Option, Some, None, option_map, All, AllPairs, Contains, refl, sym, ap, subst, ◌∙◌, arith, append_assoc, length-append}
-use Rattle.std.specs.Prelude.{IsSomeAnd, IsTrue}
+use Rattle.std.proofs.Common.{◌≡◌, ◌≢◌, ℕ, zero, suc, ◌+◌, ◌<◌, ◌≤◌, List, [], ◌∷◌, ◌++◌, length, replicate, slice_get, Some, option_map, All, AllPairs, Contains, refl, sym, ap, subst, ◌∙◌, arith, length-append}
+use Rattle.std.specs.Prelude.{IsSomeAnd}
 use Rattle.std.specs.List.{AllByRecursion, flat_map}
 use Rattle.std.proofs.lemmas.Grind.{flat_map-append}
-use Rattle.std.proofs.lemmas.List.Elements.{All-cons, All-head, All-tail, All-weaker, All-append, All-replicate}
+use Rattle.std.proofs.lemmas.List.Elements.{All-cons, All-head, All-tail, All-weaker}
 use Rattle.t_base.specs.declared.basics.Var.{Var}
 use Rattle.t_base.specs.declared.shared_parts.Const.{Const}
 use Rattle.t_base.specs.declared.shared_parts.Const.TheVariants as constant
 use Rattle.t_base.specs.declared.shared_parts.Shared.{Shared}
 use Rattle.t_base.specs.SharedParts.{IsCopyOf}
-use Rattle.t_prim.specs.SharedParts.{IsConst, IsNameText, HasLowerParts, IsWholeShared, builtin_ops}
+use Rattle.t_prim.specs.SharedParts.{IsConst, IsNameText, HasLowerParts, IsWholeShared}
 use Rattle.word_ir.specs.declared.operands.Operand.{Operand}
 use Rattle.word_ir.specs.declared.operands.Operand.TheVariants as operand
 use Rattle.word_ir.specs.declared.words.StaticWord.{StaticWord}
 use Rattle.word_ir.specs.declared.words.StaticWord.TheVariants as first
-use Rattle.word_ir.specs.declared.words.WordEnd.{WordEnd}
 use Rattle.word_ir.specs.declared.words.WordEnd.TheVariants as last
 use Rattle.word_ir.specs.declared.words.WordBlock.{WordBlock}
 use Rattle.word_ir.specs.declared.words.Words.{Words}

@@ -1,5 +1,5 @@
 -- What `assign` promises of the program with homes.
-use Rattle.std.specs.Prelude.{◌≡◌, ℕ, ◌≤◌, ◌%◌, length}
+use Rattle.std.specs.Prelude.{◌≡◌, ◌≤◌, ◌%◌}
 use Rattle.program_runs.specs.Keeps.{KeepsAlike, IsSafe}
 use Rattle.word_ir.specs.declared.placed.Placed.{Placed}
 use Rattle.word_ir.specs.declared.words.Words.{Words}

@@ -92,13 +92,15 @@ fn with_static_homes(alloc: Global, words: &Words) -> Result<Placed, Memory>
     let at = homes_from(alloc, own as u32, vars.as_slice())?;
     let mut words = words.copy(alloc)?;
     let count = own + vars.len();
-    words.statics.resize(count + count % 2, StaticWord::Word(0))?;
+    let even = count + count % 2;
+    words.statics.resize(even, StaticWord::Word(0))?;
     Ok(Placed { words, at })
 }
 
-/// The program with a home for each of its variables: a whole one, whose runs are those of the words, step for step, where they are safe. Variables that
-/// live at once have different homes, and no home is in the stack. Blocks and shared parts stay as they are; the static words are
-/// more by the variables that are bound, and one more where their count would be odd. The only error is the want of memory.
+/// The program with a home for each of its variables: a whole one, whose runs are those of the words, step for step, where they are
+/// safe. Variables that live at once have different homes, and no home is in the stack. Blocks and shared parts stay as they are;
+/// the static words are more by the variables that are bound, and one more where their count would be odd. The only error is the
+/// want of memory.
 pub fn assign(alloc: Global, words: &Words) -> Result<Placed, Memory>
     requires whole { IsWhole words.now }
     requires bound { UsesAreBound words.now }
