@@ -1,4 +1,4 @@
--- Blocks of a program and of its copy, and the lines from a place on.
+-- The lines of a block from a place on, and the open blocks that they name.
 use Rattle.std.proofs.Common.{◌≡◌, ℕ, zero, suc, ◌+◌, ◌<◌, List, [], ◌∷◌, length, get_or, slice_get, drop, Option, Some, None, Contains, option_map, refl, sym, ap, subst, ◌∙◌, arith}
 use Rattle.std.specs.List.{flat_map}
 use Rattle.std.specs.Option.{option_map_or}
@@ -11,30 +11,8 @@ use Rattle.word_ir.specs.declared.words.WordEnd.{WordEnd}
 use Rattle.word_ir.specs.declared.words.WordBlock.{WordBlock}
 use Rattle.word_ir.specs.declared.words.Words.{Words}
 use Rattle.word_ir.specs.Lines.{Line, Op, Last, line_in, line_at, lines_from, lines_of, exits_of}
-use Rattle.word_ir.specs.Copies.{IsCopyOfBlock, AreCopies}
 use Rattle.word_ir.specs.Whole.{open_blocks}
 use Rattle.word_ir.specs.WholePlaced.{depth_behind, IsLodgedFrom}
-
--- what holds of the blocks at one place of two lists of copies
-pub by_copies : (P : Option WordBlock → Option WordBlock → Type 0) (xs ys : List WordBlock) (b : ℕ) → AreCopies xs ys → P None None
-    → ((x y : WordBlock) → slice_get xs b ≡ Some x → slice_get ys b ≡ Some y → IsCopyOfBlock x y → P (Some x) (Some y)) → P (slice_get xs b) (slice_get ys b)
-by_copies P [] [] b h n s = n
-by_copies P [] (y ∷ ys) b h n s = absurd h
-by_copies P (x ∷ xs) [] b h n s = absurd h
-by_copies P (x ∷ xs) (y ∷ ys) zero h n s = s x y refl refl h.0
-by_copies P (x ∷ xs) (y ∷ ys) (suc b) h n s = by_copies P xs ys b h.1 n s
-
-pub line_of_copy : (x y : WordBlock) (k : ℕ) → IsCopyOfBlock x y → line_in y k ≡ line_in x k
-line_of_copy x y k h =
-    ap (λ (ops : List WordOp). option_map_or Op (slice_get ops k) (Last y.last)) h.ops ∙ ap (λ (e : WordEnd). option_map_or Op (slice_get x.ops.items k) (Last e)) h.last
-
-pub lines_of_copy : (x y : WordBlock) → IsCopyOfBlock x y → lines_of y ≡ lines_of x
-lines_of_copy x y h = ap (λ (ops : List WordOp). lines_from ops y.last) h.ops ∙ ap (λ (e : WordEnd). lines_from x.ops.items e) h.last
-
-pub line_there : (old new : Words) (b k : ℕ) → AreCopies old.blocks.items new.blocks.items → line_at new b k ≡ line_at old b k
-line_there old new b k h =
-    by_copies (λ o p. option_map (λ (x : WordBlock). line_in x k) p ≡ option_map (λ (x : WordBlock). line_in x k) o) old.blocks.items new.blocks.items b h refl
-    (λ x y e f c. ap (λ l. Some l) (line_of_copy x y k c))
 
 -- ---- the lines from a place on
 

@@ -32,9 +32,9 @@ use Rattle.word_ir.specs.Effects.{Effect, Binds, Stores, Takes, SetsTop, Puts, T
 use Rattle.word_ir.specs.Step.{words_in, placed_in}
 use Rattle.word_ir.specs.Ranges.{IsInPlace}
 use Rattle.word_ir.proofs.Apart.{homes_hide_nothing}
+use Rattle.word_ir.proofs.CopiesWeigh.{by_copies}
 use Rattle.trace_regs.specs.Homes.{Serves}
 use Rattle.trace_regs.proofs.Keepers.{chosen, refused, KeepsOutside, outside_at, held_outside, room_outside, frame_outside, Agree, Paired, Done, Both, Neither}
-use Rattle.trace_regs.proofs.Blocks.{by_copies}
 
 -- ---- two effects
 
@@ -304,7 +304,8 @@ module _ (words : Words) (placed : Placed) (sizes : Sizes) (serves : Serves word
   meets_block : (l : Line) (block : ℕ) (go back : WordBlock → Effect) → ((x y : WordBlock) → slice_get placed.words.blocks.items block ≡ Some y → y.params ≡ x.params → M l (go x) (back y))
       → M l (or_broken (block_at m block) go) (or_broken (block_at n block) back)
   meets_block l block go back h =
-      by_copies (λ o p. M l (or_broken o go) (or_broken p back)) words.blocks.items placed.words.blocks.items block (serves.of).blocks (Broke _) (λ x y e found c. h x y found c.params)
+      by_copies (λ o p. slice_get placed.words.blocks.items block ≡ p → M l (or_broken o go) (or_broken p back)) words.blocks.items placed.words.blocks.items block (serves.of).blocks (λ e. Broke _)
+      (λ x y c found. h x y found c.params) refl
 
   meets_jump : (l : Line) (block : ℕ) (args : List Operand) → AllByRecursion SameWord args → M l (or_broken (block_at m block) (jump_effect m s block args)) (or_broken (block_at n block) (jump_effect n t block args))
   meets_jump l block args h =

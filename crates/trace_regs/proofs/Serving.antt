@@ -21,7 +21,7 @@ use Rattle.word_ir.specs.State.{Keeper, Own, At, keeper_of}
 use Rattle.word_ir.specs.Whole.{each_line, open_blocks, static_place, named_statics, IsOperand, IsStatic, IsLineThere, most_statics, HasPlaces, vars_at, binders_in, binders, Includes, IsWhole}
 use Rattle.word_ir.specs.WholePlaced.{IsHome, static_home, without, needed, LiesWithin, depth_behind, AreLodged, IsLodgedFrom, HasLodgings, StandBehind, IsWholePlaced, IsPlacedOf, statics_with_homes}
 use Rattle.trace_regs.specs.Homes.{IsOutside, Serves}
-use Rattle.trace_regs.specs.Assignment.{UsesAreBound, IsBetween, HaveHomes, added, IsAssigned}
+use Rattle.trace_regs.specs.Assignment.{IsBetween, HaveHomes, added, IsAssigned}
 use Rattle.trace_regs.proofs.Blocks.{contains_flat, contains_at}
 use Rattle.trace_regs.proofs.WholeCopies.{lines_name, IsLonger, statics_count, binders_same, named_same, longer_whole}
 
@@ -205,7 +205,7 @@ same_within (suc n) (suc b) vars v c = same_within n b vars v c
 
 -- ---- what is assigned serves
 
-module _ (words : Words) (placed : Placed) (whole : IsWhole words) (bound : UsesAreBound words) (few : statics_with_homes words ≤ most_statics) (is : IsAssigned words placed) where
+module _ (words : Words) (placed : Placed) (whole : IsWhole words) (few : statics_with_homes words ≤ most_statics) (is : IsAssigned words placed) where
   abbrev own : ℕ
   own = length words.statics.items
 
@@ -237,7 +237,7 @@ module _ (words : Words) (placed : Placed) (whole : IsWhole words) (bound : Uses
 
   uses_in : (b : ℕ) (block : WordBlock) → slice_get blocks b ≡ Some block → AreOf own (binders words) homes have (lines_of block)
   uses_in b block found line c = (
-    λ v d. All-contains (Contains (binders words)) (each_line uses_of words) v bound (subst (λ (l : List Var). Contains l v) uses_same
+    λ v d. All-contains (Contains (binders words)) (each_line uses_of words) v (whole.scopes).bound (subst (λ (l : List Var). Contains l v) uses_same
         (contains_flat (λ (x : WordBlock). flat_map uses_of (lines_of x)) blocks block v (contains_at blocks b block found) (contains_flat uses_of (lines_of block) line v c d))),
     λ v d. subst (λ (l : List Var). Contains l v) (binders_same words placed.words (added words) longer)
         (contains_flat binders_in blocks block v (contains_at blocks b block found) (Contains-append_right block.params (flat_map binds_of (lines_of block)) v (contains_flat binds_of (lines_of block) line v c d))),

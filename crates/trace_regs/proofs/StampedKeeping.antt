@@ -23,9 +23,9 @@ use Rattle.word_ir.specs.Marked.{MarksFit}
 use Rattle.word_ir.proofs.Places.{start_in_place, step_in_place}
 use Rattle.word_ir.proofs.MarksKept.{step_keeps_marks, start_has_marks}
 use Rattle.word_ir.proofs.Stamping.{stamped_fixed, step_comes, Comes, Plain, Breaks}
+use Rattle.word_ir.proofs.CopiesWeigh.{line_same}
 use Rattle.trace_regs.specs.Homes.{Serves}
 use Rattle.trace_regs.proofs.Keepers.{chosen, refused, Agree}
-use Rattle.trace_regs.proofs.Blocks.{line_there}
 use Rattle.trace_regs.proofs.Matching.{beside, words_same, line_meets}
 use Rattle.trace_regs.proofs.Stepping.{step_done, live_at, Next, Spot, spot, agree_uses, next_step}
 use Rattle.trace_regs.proofs.Stamping.{marks_beside, stamps_same, line_may_same, marks_meet}
@@ -83,7 +83,7 @@ module _ (words : Words) (placed : Placed) (sizes : Sizes) (serves : Serves word
     second = both (step n t) (counted (marked n t l line (line_effect n t line)))
 
     found : line_at placed.words s.block s.place ≡ Some line
-    found = line_there words placed.words s.block s.place (serves.of).blocks ∙ there
+    found = line_same words placed.words s.block s.place (serves.of).blocks ∙ there
 
     at : Spot words placed sizes serves s line
     at = spot words placed sizes serves s line found
@@ -141,7 +141,7 @@ module _ (words : Words) (placed : Placed) (sizes : Sizes) (serves : Serves word
       let f : Env Word = next.state.env in
       let v : Stamped = both (beside s more f) (marks_beside k extra next.env) in
       let same : u ≡ v = ap (λ (x : State). both x u.marks) next.state.is ∙ ap (λ (y : Marks). both (beside s more f) y) next.is in
-      let lines : line_at placed.words s.block s.place ≡ line_at words s.block s.place = line_there words placed.words s.block s.place (serves.of).blocks in
+      let lines : line_at placed.words s.block s.place ≡ line_at words s.block s.place = line_same words placed.words s.block s.place (serves.of).blocks in
       let first : stamped_step m t ≡ stamped_done m t (line_at words s.block s.place) = stamped_going m t going in
       let second : stamped_step n v ≡ stamped_done n v (line_at words s.block s.place) = stamped_going n v going ∙ ap (stamped_done n v) lines in
       let after : StampedNext (stamped_done m t (line_at words s.block s.place)) (stamped_done n v (line_at words s.block s.place)) =

@@ -25,9 +25,9 @@ use Rattle.word_ir.specs.Stamps.{Stamp, Live, Marks, birth_at, stamp_held, stamp
 use Rattle.word_ir.specs.Ranges.{IsInPlace}
 use Rattle.word_ir.specs.Marked.{MarksFit}
 use Rattle.word_ir.specs.WholePlaced.{needed}
+use Rattle.word_ir.proofs.CopiesWeigh.{by_copies}
 use Rattle.trace_regs.specs.Homes.{Serves}
 use Rattle.trace_regs.proofs.Keepers.{KeepsOutside, outside_at, Agree, Paired, Done, Both, all_kept}
-use Rattle.trace_regs.proofs.Blocks.{by_copies}
 use Rattle.trace_regs.proofs.Matching.{Same, Bind, Store, Take, Top, Put, Turn, Enter, Finish, Meets, Broke, Goes, beside}
 use Rattle.trace_regs.proofs.Stepping.{with_more, store_more, long_within, live_at, Spot, after_bind, after_none, after_turn, after_enter}
 
@@ -139,7 +139,7 @@ module _ (words : Words) (placed : Placed) (sizes : Sizes) (serves : Serves word
   params_same : (block : ℕ) → params_at m block ≡ params_at n block
   params_same block =
       by_copies (λ o p. option_map_or (λ (b : WordBlock). b.params) o [] ≡ option_map_or (λ (b : WordBlock). b.params) p []) words.blocks.items placed.words.blocks.items block (serves.of).blocks refl
-      (λ x y d e c. sym c.params)
+      (λ x y c. sym c.params)
 
   params_of : (block : ℕ) (target : WordBlock) → slice_get placed.words.blocks.items block ≡ Some target → params_at n block ≡ target.params
   params_of block target found = ap (λ (o : Option WordBlock). option_map_or (λ (b : WordBlock). b.params) o []) found

@@ -19,9 +19,10 @@ use Rattle.word_ir.specs.Step.{words_in, placed_in, on, into, changed, moving, d
 use Rattle.word_ir.specs.Ranges.{IsInPlace}
 use Rattle.word_ir.specs.Whole.{vars_at, open_blocks, Includes}
 use Rattle.word_ir.specs.WholePlaced.{needed, without, AreApart, IsLodgedFrom, HasLodgings}
+use Rattle.word_ir.proofs.CopiesWeigh.{line_same}
 use Rattle.trace_regs.specs.Homes.{Serves}
 use Rattle.trace_regs.proofs.Keepers.{KeepsOutside, outside_at, hold_outside, Agree, agree_bound, without_none, Paired, Done, Both, Neither, agree_paired, all_kept, AreOutside, hold_all_outside}
-use Rattle.trace_regs.proofs.Blocks.{line_there, lines_behind, Stands, stands, line_found, lodged_behind, contains_flat, opened_by}
+use Rattle.trace_regs.proofs.Blocks.{lines_behind, Stands, stands, line_found, lodged_behind, contains_flat, opened_by}
 use Rattle.trace_regs.proofs.Matching.{IsOpBinding, Same, Bind, Store, Take, Top, Put, Turn, Enter, Finish, Meets, Broke, Goes, beside, words_same, line_meets}
 
 -- ---- storage with more static words
@@ -245,7 +246,7 @@ module _ (words : Words) (placed : Placed) (sizes : Sizes) (serves : Serves word
   pub next_step : (s t : State) (more : List Word) → IsInPlace m s → s.end ≡ None → ((step m s).end ≡ Some Broken → ⊥) → Next s t more → Next (step m s) (step n t) more
   next_step s t more place going sound next =
       let f : Env Word = next.env in
-      let lines : line_at placed.words s.block s.place ≡ line_at words s.block s.place = line_there words placed.words s.block s.place (serves.of).blocks in
+      let lines : line_at placed.words s.block s.place ≡ line_at words s.block s.place = line_same words placed.words s.block s.place (serves.of).blocks in
       let first : step m s ≡ done m s (line_at placed.words s.block s.place) = step_done m s going ∙ ap (done m s) (sym lines) in
       let second : step n (beside s more f) ≡ done n (beside s more f) (line_at placed.words s.block s.place) = step_done n (beside s more f) going in
       let after : Next (done m s (line_at placed.words s.block s.place)) (done n (beside s more f) (line_at placed.words s.block s.place)) more =

@@ -17,10 +17,10 @@ use Rattle.word_ir.specs.declared.words.StaticWord.TheVariants as first
 use Rattle.word_ir.specs.declared.words.WordEnd.TheVariants as last
 use Rattle.word_ir.specs.declared.words.WordBlock.{WordBlock}
 use Rattle.word_ir.specs.declared.words.Words.{Words}
-use Rattle.word_ir.specs.Lines.{Line, Op, Last, lines_of, operands_of, exits_of, codes_of, statics_of, binds_of}
+use Rattle.word_ir.specs.Lines.{Line, Op, Last, lines_of, operands_of, uses_of, exits_of, codes_of, statics_of, binds_of}
 use Rattle.word_ir.specs.Copies.{IsCopyOfBlock, AreCopies}
 use Rattle.word_ir.specs.Whole.{each_line, open_blocks, static_code, taken_blocks, jumps_of, jumped_blocks, static_place, named_statics, IsOperand, IsStatic, IsLineThere, most_statics, HasPlaces, vars_at, IsScopedFrom, binders_in, binders, HasScopes, IsShaped, most_entered, HasShapes, IsWhole}
-use Rattle.trace_regs.proofs.Blocks.{by_copies, lines_of_copy}
+use Rattle.word_ir.proofs.CopiesWeigh.{by_copies, lines_same}
 
 -- ---- lists of copies
 
@@ -36,14 +36,14 @@ lines_name f [] [] h = refl
 lines_name f [] (y ∷ ys) h = absurd h
 lines_name f (x ∷ xs) [] h = absurd h
 lines_name f (x ∷ xs) (y ∷ ys) h =
-    ap (λ (ls : List Line). flat_map f ls ++ flat_map (λ (b : WordBlock). flat_map f (lines_of b)) ys) (lines_of_copy x y h.0) ∙ ap (λ l. flat_map f (lines_of x) ++ l) (lines_name f xs ys h.1)
+    ap (λ (ls : List Line). flat_map f ls ++ flat_map (λ (b : WordBlock). flat_map f (lines_of b)) ys) (lines_same x y h.0) ∙ ap (λ l. flat_map f (lines_of x) ++ l) (lines_name f xs ys h.1)
 
 copies_bind : (xs ys : List WordBlock) → AreCopies xs ys → flat_map binders_in ys ≡ flat_map binders_in xs
 copies_bind [] [] h = refl
 copies_bind [] (y ∷ ys) h = absurd h
 copies_bind (x ∷ xs) [] h = absurd h
 copies_bind (x ∷ xs) (y ∷ ys) h =
-    let block : binders_in y ≡ binders_in x = ap (λ (ls : List Line). y.params ++ flat_map binds_of ls) (lines_of_copy x y h.0) ∙ ap (λ (ps : List Var). ps ++ flat_map binds_of (lines_of x)) h.0.params in
+    let block : binders_in y ≡ binders_in x = ap (λ (ls : List Line). y.params ++ flat_map binds_of ls) (lines_same x y h.0) ∙ ap (λ (ps : List Var). ps ++ flat_map binds_of (lines_of x)) h.0.params in
     ap (λ l. l ++ flat_map binders_in ys) block ∙ ap (λ l. binders_in x ++ l) (copies_bind xs ys h.1)
 
 -- what holds of all lines
@@ -53,7 +53,7 @@ all_lines P Q [] (y ∷ ys) f h g = absurd h
 all_lines P Q (x ∷ xs) [] f h g = absurd h
 all_lines P Q (x ∷ xs) (y ∷ ys) f h g =
     All-cons (λ (b : WordBlock). All Q (lines_of b)) y ys
-    (subst (λ (ls : List Line). All Q ls) (sym (lines_of_copy x y h.0)) (All-weaker P Q f (lines_of x) (All-head (λ (b : WordBlock). All P (lines_of b)) x xs g)))
+    (subst (λ (ls : List Line). All Q ls) (sym (lines_same x y h.0)) (All-weaker P Q f (lines_of x) (All-head (λ (b : WordBlock). All P (lines_of b)) x xs g)))
     (all_lines P Q xs ys f h.1 (All-tail (λ (b : WordBlock). All P (lines_of b)) x xs g))
 
 weaker : {X : Type 0} (P Q : X → Type 0) (xs : List X) → ((x : X) → P x → Q x) → AllByRecursion P xs → AllByRecursion Q xs
@@ -183,21 +183,23 @@ module _ (old new : Words) (more : ℕ) (h : IsLonger old new more) where
   pair : (b : ℕ) (block : WordBlock) → slice_get new.blocks.items b ≡ Some block → Pair b block
   pair b block e =
       by_copies (λ o p. slice_get old.blocks.items b ≡ o → p ≡ Some block → Pair b block) old.blocks.items new.blocks.items b h.blocks (λ f q. absurd (cc))
-      (λ x y f g c there q. let same : y ≡ block = cc in record { before = x; found = there; copy = subst (λ (z : WordBlock). IsCopyOfBlock x z) same c }) refl e
+      (λ x y c there q. let same : y ≡ block = cc in record { before = x; found = there; copy = subst (λ (z : WordBlock). IsCopyOfBlock x z) same c }) refl e
 
   -- what holds of the block with a number
   pub some_copy : (P : WordBlock → Type 0) (b : ℕ) → ((x y : WordBlock) → IsCopyOfBlock x y → P x → P y) → IsSomeAnd (slice_get old.blocks.items b) P → IsSomeAnd (slice_get new.blocks.items b) P
   some_copy P b f k =
-      by_copies (λ o p. IsSomeAnd o P → IsSomeAnd p P) old.blocks.items new.blocks.items b h.blocks (λ z. z) (λ x y e g c z. f x y c z) k
+      by_copies (λ o p. IsSomeAnd o P → IsSomeAnd p P) old.blocks.items new.blocks.items b h.blocks (λ z. z) (λ x y c z. f x y c z) k
 
   has_scopes : HasScopes old → HasScopes new
   has_scopes w = record {
     bound_once = subst (λ (l : List Var). AllPairs (λ v w. v ≢ w) l) (sym binders_same) w.bound_once;
+    bound = subst (λ (l : List Var). All (Contains l) (each_line uses_of new)) (sym binders_same)
+        (subst (λ (l : List Var). All (Contains (binders old)) l) (sym (lines_name uses_of old.blocks.items new.blocks.items h.blocks)) w.bound);
     sees = w.sees;
     params = λ b block e closed.
         let p = pair b block e in
         w.params b p.before p.found (λ c. closed (subst (λ (l : List ℕ). Contains l b) (sym opened_same) c)) ∙ sym (p.copy).params;
-    used = λ b block e. let p = pair b block e in subst (λ (ls : List Line). IsScopedFrom w.sees (vars_at w.sees b) ls) (sym (lines_of_copy p.before block p.copy)) (w.used b p.before p.found);
+    used = λ b block e. let p = pair b block e in subst (λ (ls : List Line). IsScopedFrom w.sees (vars_at w.sees b) ls) (sym (lines_same p.before block p.copy)) (w.used b p.before p.found);
   }
 
   no_params : (b : ℕ) → IsSomeAnd (slice_get old.blocks.items b) (λ (block : WordBlock). block.params ≡ []) → IsSomeAnd (slice_get new.blocks.items b) (λ (block : WordBlock). block.params ≡ [])

@@ -1,5 +1,5 @@
 -- Which homes variables get: each one that is bound has a static word of its own, behind those of the program.
-use Rattle.std.specs.Prelude.{◌≡◌, ℕ, ◌+◌, ◌-◌, ◌%◌, ◌<◌, ◌≤◌, List, ◌++◌, length, replicate, slice_get, set, Some, All, Contains}
+use Rattle.std.specs.Prelude.{◌≡◌, ℕ, ◌+◌, ◌-◌, ◌%◌, ◌<◌, ◌≤◌, List, ◌++◌, length, replicate, slice_get, set, Some, All}
 use Rattle.t_base.specs.declared.basics.Var.{Var}
 use Rattle.t_base.specs.SharedParts.{IsCopyOf as IsCopyOfShared}
 use Rattle.word_ir.specs.declared.placed.Home.{Home}
@@ -8,12 +8,7 @@ use Rattle.word_ir.specs.declared.placed.Placed.{Placed}
 use Rattle.word_ir.specs.declared.words.StaticWord.TheVariants as first
 use Rattle.word_ir.specs.declared.words.Words.{Words}
 use Rattle.word_ir.specs.Copies.{AreCopies}
-use Rattle.word_ir.specs.Lines.{uses_of}
-use Rattle.word_ir.specs.Whole.{each_line, binders}
-
--- every variable that is used is bound somewhere
-abbrev pub UsesAreBound : Words → Type 0
-UsesAreBound words = All (Contains (binders words)) (each_line uses_of words)
+use Rattle.word_ir.specs.Whole.{binders}
 
 -- the home of a number that is no variable's
 abbrev pub spare : Home

@@ -5,7 +5,7 @@ ghost use Rattle.word_ir.specs.Whole.{binders_in, binders, most_statics, IsWhole
 ghost use Rattle.word_ir.specs.WholePlaced.{statics_with_homes};
 ghost use Rattle.trace_regs.specs.Homes.{Serves};
 ghost use Rattle.trace_regs.specs.Promises.{KeepsRuns, KeepsStampedRuns, KeepsBulk};
-ghost use Rattle.trace_regs.specs.Assignment.{UsesAreBound, with_home, HaveHomes, IsAssigned};
+ghost use Rattle.trace_regs.specs.Assignment.{with_home, HaveHomes, IsAssigned};
 
 use std::alloc::Global;
 use t_base::{Memory, Var};
@@ -103,7 +103,6 @@ fn with_static_homes(alloc: Global, words: &Words) -> Result<Placed, Memory>
 /// want of memory.
 pub fn assign(alloc: Global, words: &Words) -> Result<Placed, Memory>
     requires whole { IsWhole words.now }
-    requires bound { UsesAreBound words.now }
     requires few { statics_with_homes words.now ≤ most_statics }
     ensures serves { IfOk result (λ placed. Serves words.now placed) }
     ensures keeps { IfOk result (λ placed. KeepsRuns words.now placed) }
