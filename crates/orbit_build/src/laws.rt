@@ -8,6 +8,8 @@ ghost use Rattle.orbit_build.specs.Sums.{is_built};
 ghost use Rattle.t_core.specs.declared.forms.UnitCore.{UnitCore};
 ghost use Rattle.t_core.specs.declared.limiting.LimitFault.{LimitFault};
 
+use core_meanings::cores_mean_the_same;
+
 /// All cores of a text count alike, and all are built or none.
 pub fn cores_alike()
     ensures counts { (text : List ℕ) (unit other : UnitCore) → HasCore text unit → HasCore text other → CountAlike unit other }
@@ -26,4 +28,6 @@ pub fn one_outcome()
 pub fn every_core()
     ensures meaning { (text : List ℕ) (unit other : UnitCore) → HasCore text unit → HasCore text other → MeanTheSame unit other }
     ensures images { (text bytes : List ℕ) → Faithful text bytes → (unit : UnitCore) → HasCore text unit → IsImageOfUnit unit bytes }
-{}
+{
+    cores_mean_the_same();
+}

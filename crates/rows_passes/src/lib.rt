@@ -1,0 +1,7 @@
+//! Tests of the parts that passes are built of, and of passes on small programs. What is expected comes from what the parts are for, never from their own answers.
+#![tactic(auto)]
+
+#[cfg(test)]
+mod chains;
+#[cfg(test)]
+mod moves;

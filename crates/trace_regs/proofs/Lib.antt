@@ -1,0 +1,11 @@
+pub mod Blocks
+pub mod Keepers
+pub mod Matching
+pub mod Stepping
+pub mod Keeping
+pub mod Stamping
+pub mod StampedKeeping
+pub mod Homing
+pub mod WholeCopies
+pub mod Serving
+pub mod Promising
