@@ -1,0 +1,6 @@
+pub mod Paths
+pub mod Zips
+pub mod Scopes
+pub mod Relate
+pub mod Claims
+pub mod Operands
