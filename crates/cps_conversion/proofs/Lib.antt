@@ -4,3 +4,5 @@ pub mod Scopes
 pub mod Relate
 pub mod Claims
 pub mod Operands
+pub mod Spots
+pub mod Atoms

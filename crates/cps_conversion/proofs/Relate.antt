@@ -105,12 +105,15 @@ env_grown x held kinds now s r env sc g h y e = let a = h y e in record {
   entry = entry_grown (is_assigned x.unit (record { 0 = y })) kinds now g.rest s.locations r.locations a.location (meant_by sc y) (slice_get kinds a.location) refl g.more (λ v. g.kept a.location v) a.entry;
 }
 
-pub env_extends : (x : Translation) (held : List ℕ) (kinds : Kinds) (ls : List Val) (env : Env) (sc sd : Scope) → Extends held sc sd → EnvAs x held kinds ls env sc → EnvAs x held kinds ls env sd
-env_extends x held kinds ls env sc sd o h y e = let a = h y e in record {
+pub env_meant : (x : Translation) (held : List ℕ) (kinds : Kinds) (ls : List Val) (env : Env) (sc sd : Scope) → ((y : ℕ) → is_in held y ≡ true → meant_by sd y ≡ meant_by sc y) → EnvAs x held kinds ls env sc → EnvAs x held kinds ls env sd
+env_meant x held kinds ls env sc sd f h y e = let a = h y e in record {
   location = a.location;
   found = a.found;
-  entry = subst (λ m. EntryAs (is_assigned x.unit (record { 0 = y })) (slice_get kinds a.location) (slice_get ls a.location) m) (sym (o.meant y e)) a.entry;
+  entry = subst (λ m. EntryAs (is_assigned x.unit (record { 0 = y })) (slice_get kinds a.location) (slice_get ls a.location) m) (sym (f y e)) a.entry;
 }
+
+pub env_extends : (x : Translation) (held : List ℕ) (kinds : Kinds) (ls : List Val) (env : Env) (sc sd : Scope) → Extends held sc sd → EnvAs x held kinds ls env sc → EnvAs x held kinds ls env sd
+env_extends x held kinds ls env sc sd o h = env_meant x held kinds ls env sc sd o.meant h
 
 pub env_less : (x : Translation) (held less : List ℕ) (kinds : Kinds) (ls : List Val) (env : Env) (sc : Scope) → ((y : ℕ) → is_in less y ≡ true → is_in held y ≡ true) → EnvAs x held kinds ls env sc → EnvAs x less kinds ls env sc
 env_less x held less kinds ls env sc f h y e = h y (f y e)
