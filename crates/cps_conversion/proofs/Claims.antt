@@ -13,6 +13,7 @@ use Rattle.t_meaning.specs.Environment.{Env, location_of}
 use Rattle.t_meaning.specs.Costs.{is_assigned}
 use Rattle.t_meaning.specs.State.{Procedure, State as Made, entered}
 use Rattle.t_meaning.specs.Outcomes.{Outcome, Value, Escaping, Faulted, Out, Context, Task, Evaluate, Apply, Enter, Doing, or_unbound}
+use Rattle.t_meaning.specs.Operations.{default_of}
 use Rattle.t_meaning.specs.Expressions.{evaluate, with_global}
 use Rattle.t_meaning.specs.Performing.{perform}
 use Rattle.cps_ir.specs.declared.args.Arg.{Arg}
@@ -23,12 +24,12 @@ use Rattle.cps_ir.specs.Terms.{moves_of}
 use Rattle.cps_ir.specs.Parts.{is_assigned as cps_assigned}
 use Rattle.cps_ir.specs.States.{Marking as CpsMarking, Program as CpsProgram, marked as cps_marked, Meant, Direct, InLocation, Bound, Scope, Closure, Pending, Waiting, Back, Live, At, Calling, Entering, Ended, State, going, counting, with_waiting, taking, with_location, end_of}
 use Rattle.cps_ir.specs.Giving.{or_broken, or_unbound as cps_unbound, meant_by, value_of, with_arg, with_args, located, binding, Way, Out as Outwards, On, Lost, way, resumed, returned, given, give}
-use Rattle.cps_ir.specs.Calls.{unwound}
+use Rattle.cps_ir.specs.Calls.{default_of as cps_default_of, unwound}
 use Rattle.cps_ir.specs.Running.{performed, step}
 use Rattle.cps_ir.specs.Reaches.{is_in}
 use Rattle.cps_conversion.specs.Conversion.{Translation, Stands, ConvertsWithin, is_proc, ready_arg, IsBound}
 use Rattle.cps_conversion.specs.Law.{IsCarried}
-use Rattle.cps_conversion.proofs.Zips.{Zipped}
+use Rattle.cps_conversion.proofs.Zips.{Zipped, Both}
 use Rattle.cps_conversion.proofs.Scopes.{Extends, extends_same, total, total_back, Waits}
 use Rattle.cps_conversion.proofs.Relate.{Kinds, Grown, EntryAs, VariableAs, EnvAs, ProcedureAs, Sync}
 use Rattle.cps_conversion.proofs.Paths.{waiting_of, Common, Gone, Runs, gone_none, runs_step}
@@ -69,6 +70,7 @@ module _ (x : Translation) (M : ℕ) (marks : Marking) (escapes : CpsMarking) wh
     pub shared : x.cps.shared ≡ x.unit.shared
     pub assigned : (v : Var) → cps_assigned x.cps v.0 ≡ is_assigned x.unit v
     pub carried : IsCarried x.origins marks escapes
+    pub defaults : (o : ℕ) (kinds : Kinds) (ls : List Val) → Both (ProcedureAs x M kinds ls) (default_of x.unit o) (cps_default_of x.cps o)
 
   -- where a stretch began: the unit's state, the kinds of its locations, and the moves that are owed behind it
   pub record Base : Type 0 where

@@ -6,3 +6,7 @@ pub mod Claims
 pub mod Operands
 pub mod Spots
 pub mod Atoms
+pub mod Terms
+pub mod Calls
+pub mod Bindings
+pub mod Lets

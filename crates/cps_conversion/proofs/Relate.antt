@@ -38,6 +38,11 @@ get_within [] i v h = absurd (none_some v h)
 get_within (y ∷ a) zero v h = omega arith
 get_within (y ∷ a) (suc i) v h = let k = get_within a i v h in omega (arith, k)
 
+pub there : {X : Type 0} (a : List X) (i : ℕ) → i < length a → (v : X) × (slice_get a i ≡ Some v)
+there [] i h = absurd (omega (arith, h))
+there (y ∷ a) zero h = (y, refl)
+there (y ∷ a) (suc i) h = there a i (omega (arith, h))
+
 -- ---- locations
 
 -- For each location of the unit: none of the program, where the variable is never assigned, or the place of the program's location.
@@ -98,11 +103,46 @@ entry_grown assigned kinds now rest ls ms l m (Some None) e more kept h =
 entry_grown assigned kinds now rest ls ms l m (Some (Some i)) e more kept h =
     subst (λ k. EntryAs assigned k (slice_get ms l) m) (sym (kind_stays kinds now rest l (Some i) more e)) h
 
-pub env_grown : (x : Translation) (held : List ℕ) (kinds now : Kinds) (s r : Made) (env : Env) (sc : Scope) → Grown x kinds s now r → EnvAs x held kinds s.locations env sc → EnvAs x held now r.locations env sc
-env_grown x held kinds now s r env sc g h y e = let a = h y e in record {
+pub env_later : (x : Translation) (held : List ℕ) (kinds now : Kinds) (ls ms : List Val) (gs later : List (Option Val)) (env : Env) (sc : Scope) → GrownTo x kinds ls gs now ms later → EnvAs x held kinds ls env sc → EnvAs x held now ms env sc
+env_later x held kinds now ls ms gs later env sc g h y e = let a = h y e in record {
   location = a.location;
   found = a.found;
-  entry = entry_grown (is_assigned x.unit (record { 0 = y })) kinds now g.rest s.locations r.locations a.location (meant_by sc y) (slice_get kinds a.location) refl g.more (λ v. g.kept a.location v) a.entry;
+  entry = entry_grown (is_assigned x.unit (record { 0 = y })) kinds now g.rest ls ms a.location (meant_by sc y) (slice_get kinds a.location) refl g.more (λ v. g.kept a.location v) a.entry;
+}
+
+pub env_grown : (x : Translation) (held : List ℕ) (kinds now : Kinds) (s r : Made) (env : Env) (sc : Scope) → Grown x kinds s now r → EnvAs x held kinds s.locations env sc → EnvAs x held now r.locations env sc
+env_grown x held kinds now s r env sc g h = env_later x held kinds now s.locations r.locations s.globals r.globals env sc g h
+
+-- one more location
+pub grown_one : (x : Translation) (kinds : Kinds) (k : Option ℕ) (ls : List Val) (v : Val) (gs : List (Option Val)) → GrownTo x kinds ls gs (kinds ++ k ∷ []) (ls ++ v ∷ []) gs
+grown_one x kinds k ls v gs = record { rest = k ∷ []; more = refl; kept = λ l w a e. get_append ls (v ∷ []) l w e; procs = λ g p. refl }
+
+pub locations_direct : (kinds : Kinds) (ls cells : List Val) (v : Val) → LocationsAs kinds ls cells → LocationsAs (kinds ++ None ∷ []) (ls ++ v ∷ []) cells
+locations_direct kinds ls cells v h = record {
+  as_many = length-append kinds (None ∷ []) ∙ (let e = h.as_many in let f = length-append ls (v ∷ []) in omega (arith, e, f));
+  within = λ l m e. h.within l m (old l m e);
+  same = λ l m e. (let c = cell l m e in c.1 ∙ sym (get_append ls (v ∷ []) l c.0 c.2));
+  apart = λ l j m e f. h.apart l j m (old l m e) (old j m f);
+}
+  where
+    old : (l m : ℕ) → slice_get (kinds ++ None ∷ []) l ≡ Some (Some m) → slice_get kinds l ≡ Some (Some m)
+    old l m e = ⊎_elim (λ a. a) (λ a. absurd (none_some m (sym a.1))) (last_cases kinds None l (Some m) e)
+
+    cell : (l m : ℕ) → slice_get (kinds ++ None ∷ []) l ≡ Some (Some m) → (w : Val) × (slice_get cells m ≡ Some w) × (slice_get ls l ≡ Some w)
+    cell l m e = let o = old l m e in let w = there cells m (h.within l m o) in (w.0, w.1, sym (h.same l m o) ∙ w.1)
+
+pub locations_cell : (kinds : Kinds) (ls cells : List Val) (v : Val) → LocationsAs kinds ls cells → LocationsAs (kinds ++ Some (length cells) ∷ []) (ls ++ v ∷ []) (cells ++ v ∷ [])
+locations_cell kinds ls cells v h = record {
+  as_many = length-append kinds (Some (length cells) ∷ []) ∙ (let e = h.as_many in let f = length-append ls (v ∷ []) in omega (arith, e, f));
+  within = λ l m e. ⊎_elim (λ a. (let b = h.within l m a in let f = length-append cells (v ∷ []) in omega (arith, b, f))) (λ a. (let e2 : m ≡ length cells = cc (a.1) in let f = length-append cells (v ∷ []) in omega (arith, e2, f))) (last_cases kinds (Some (length cells)) l (Some m) e);
+  same = λ l m e. ⊎_elim
+    (λ a. (let w = there cells m (h.within l m a) in get_append cells (v ∷ []) m w.0 w.1 ∙ sym (get_append ls (v ∷ []) l w.0 (sym (h.same l m a) ∙ w.1))))
+    (λ a. (let e2 : m ≡ length cells = cc (a.1) in ap (slice_get (cells ++ v ∷ [])) e2 ∙ get_seam cells [] v ∙ sym (ap (slice_get (ls ++ v ∷ [])) (a.0 ∙ h.as_many) ∙ get_seam ls [] v)))
+    (last_cases kinds (Some (length cells)) l (Some m) e);
+  apart = λ l j m e f. ⊎_elim
+    (λ a. ⊎_elim (λ b. h.apart l j m a b) (λ b. (let e2 : m ≡ length cells = cc (b.1) in let w = h.within l m a in absurd (omega (arith, e2, w)))) (last_cases kinds (Some (length cells)) j (Some m) f))
+    (λ a. ⊎_elim (λ b. (let e2 : m ≡ length cells = cc (a.1) in let w = h.within j m b in absurd (omega (arith, e2, w)))) (λ b. a.0 ∙ sym b.0) (last_cases kinds (Some (length cells)) j (Some m) f))
+    (last_cases kinds (Some (length cells)) l (Some m) e);
 }
 
 pub env_meant : (x : Translation) (held : List ℕ) (kinds : Kinds) (ls : List Val) (env : Env) (sc sd : Scope) → ((y : ℕ) → is_in held y ≡ true → meant_by sd y ≡ meant_by sc y) → EnvAs x held kinds ls env sc → EnvAs x held kinds ls env sd

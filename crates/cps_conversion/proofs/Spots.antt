@@ -116,7 +116,7 @@ module _ (x : Translation) (M : ℕ) (marks : Marking) (escapes : CpsMarking) (f
   pub still_waits : (z : Spot) (sd : Scope) → Extends z.held z.sc sd → Waits (way sd z.k) z.ws z.d
   still_waits z sd o = waits_over z.k z.sc sd z.ws z.d o.ways z.waits
 
-  deeper_last : (tail : Bool) (d : ℕ) → d ≤ (if tail then d else suc d)
+  pub deeper_last : (tail : Bool) (d : ℕ) → d ≤ (if tail then d else suc d)
   deeper_last true d = omega arith
   deeper_last false d = omega arith
 
@@ -156,14 +156,14 @@ module _ (x : Translation) (M : ℕ) (marks : Marking) (escapes : CpsMarking) (f
   way_here : (j p b : ℕ) (sc : Scope) → way_of (Joined j p b ∷ sc) j ≡ On (record { param = p; body = b; scope = sc })
   way_here j p b sc = ap (λ bl. if bl then On (record { param = p; body = b; scope = sc }) else way_of sc j) (same_number j)
 
-  env_named : (bound : List ℕ) (kinds : Kinds) (ls : List Val) (env : Env) (sc : Scope) (j p b : ℕ) → EnvAs x bound kinds ls env sc → EnvAs x bound kinds ls env (Joined j p b ∷ sc)
+  pub env_named : (bound : List ℕ) (kinds : Kinds) (ls : List Val) (env : Env) (sc : Scope) (j p b : ℕ) → EnvAs x bound kinds ls env sc → EnvAs x bound kinds ls env (Joined j p b ∷ sc)
   env_named bound kinds ls env sc j p b h = env_meant x bound kinds ls env sc (Joined j p b ∷ sc) (λ y i. refl) h
 
-  waits_named : (k : Cont) (p j : Var) (b : ℕ) (sc : Scope) (ws : List Waiting) (d : ℕ) → k ≡ Continuation.Lam p b → Waits (way sc k) ws d → Waits (way_of (Joined j.0 p.0 b ∷ sc) j.0) ws d
+  pub waits_named : (k : Cont) (p j : Var) (b : ℕ) (sc : Scope) (ws : List Waiting) (d : ℕ) → k ≡ Continuation.Lam p b → Waits (way sc k) ws d → Waits (way_of (Joined j.0 p.0 b ∷ sc) j.0) ws d
   waits_named k p j b sc ws d e h = subst (λ w. Waits w ws d) (sym (way_here j.0 p.0 b sc)) (subst (λ z. Waits (way sc z) ws d) e h)
 
   -- the same node, where its continuation has a name
-  pub named : (z : Spot) (p j : Var) (b rest : ℕ) → z.k ≡ Continuation.Lam p b → z.owed + 5 ≤ z.has → Spot
+  unfoldable pub named : (z : Spot) (p j : Var) (b rest : ℕ) → z.k ≡ Continuation.Lam p b → z.owed + 5 ≤ z.has → Spot
   named z p j b rest e le = record {
     m = z.m; c = z.c; bound = z.bound; held = z.held; k = Continuation.Var j; place = rest; d = z.d; has = z.owed + 4; owed = z.owed;
     sc = Joined j.0 p.0 b ∷ z.sc; ws = z.ws; b = z.b; since = z.since; from = z.from; kinds = z.kinds; s = z.s; t = counting 1 (at z);
