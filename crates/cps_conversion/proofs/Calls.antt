@@ -78,7 +78,7 @@ module _ (x : Translation) (M : ℕ) (marks : Marking) (escapes : CpsMarking) (f
       let same = zipped_length (ArgMeans x M marks escapes inner r.globals sd) (f ∷ args) (g ∷ vs) k.means in
       runs_step (behind x M marks escapes) M (Away x M marks escapes z.ws z.b) z.m n (going (At place sd) u) (going (Calling g vs) u1) r (pt z.d (Apply g vs) r) (Done x M marks escapes facts n cl z) st (omega (arith, s0, dp, ap total k.here.ready.waiting))
         (runs_wider (behind x M marks escapes) M (Away x M marks escapes z.ws z.b) z.m n (going (Calling g vs) u1) r (pt z.d (Apply g vs) r) (Returned x M marks escapes z.ws z.since z.from z.owed) (Done x M marks escapes facts n cl z)
-          (cl.applies z.m z.d z.owed g vs z.ws z.b z.since z.from now r u1 (grown_trans x z.since z.kinds now z.from z.s r z.grown k.grown) (low x M marks escapes facts n cl z) (omega (arith, s0, dp)) z.least
+          (cl.applies z.m z.d z.owed g vs z.ws z.b z.since z.from now r u1 (grown_trans x z.since z.kinds now z.from z.s r z.grown k.grown) h (omega (arith, s0, dp)) z.least
             (record { waiting = k.here.ready.waiting; least = (let l = z.least in omega (arith, l)); grown = k.here.ready.grown; sync = record { world = k.here.ready.sync.world; moves = omega (arith, k.here.ready.sync.moves, le, len, same) } }))
           (λ q v y deeper gv. back_out z sd q v y inner (f ∷ args) (z.has + 3 * length keys) r (g ∷ vs) u now k e gv))
   by_way z inner f args keys r g vs sd u now place (On pending) le k len e h st =
@@ -90,7 +90,7 @@ module _ (x : Translation) (M : ℕ) (marks : Marking) (escapes : CpsMarking) (f
       let same = zipped_length (ArgMeans x M marks escapes inner r.globals sd) (f ∷ args) (g ∷ vs) k.means in
       runs_step (behind x M marks escapes) M (Away x M marks escapes z.ws z.b) z.m n (going (At place sd) u) (going (Calling g vs) u2) r (pt z.d (Apply g vs) r) (Done x M marks escapes facts n cl z) st (omega (arith, s0, dp, ap total k.here.ready.waiting))
         (runs_wider (behind x M marks escapes) M (Away x M marks escapes (Back pending ∷ z.ws) z.b) z.m n (going (Calling g vs) u2) r (pt z.d (Apply g vs) r) (Returned x M marks escapes (Back pending ∷ z.ws) z.since z.from z.owed) (Done x M marks escapes facts n cl z)
-          (cl.applies z.m z.d z.owed g vs (Back pending ∷ z.ws) z.b z.since z.from now r u2 (grown_trans x z.since z.kinds now z.from z.s r z.grown k.grown) (omega (arith, h, total_back pending z.ws)) (omega (arith, h, zd, dp, total_back pending z.ws)) z.least
+          (cl.applies z.m z.d z.owed g vs (Back pending ∷ z.ws) z.b z.since z.from now r u2 (grown_trans x z.since z.kinds now z.from z.s r z.grown k.grown) (tt, omega (arith, h, total_back pending z.ws)) (omega (arith, h, zd, dp, total_back pending z.ws)) z.least
             (record { waiting = ap (λ l. Back pending ∷ l) k.here.ready.waiting; least = (let l = z.least in omega (arith, l)); grown = k.here.ready.grown; sync = record { world = k.here.ready.sync.world; moves = omega (arith, k.here.ready.sync.moves, le, len, same) } }))
           (λ q v y deeper gv. back_on z sd pending q v y inner (f ∷ args) (z.has + 3 * length keys) r (g ∷ vs) u now k e gv))
   by_way z inner f args keys r g vs sd u now place Lost le k len e h st = absurd h

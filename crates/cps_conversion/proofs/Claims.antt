@@ -11,7 +11,7 @@ use Rattle.t_core.specs.declared.forms.Core.TheVariants as Node
 use Rattle.t_meaning.specs.Programs.{Marking, Program, marked, node_at}
 use Rattle.t_meaning.specs.Environment.{Env, location_of}
 use Rattle.t_meaning.specs.Costs.{is_assigned}
-use Rattle.t_meaning.specs.State.{Procedure, State as Made, entered}
+use Rattle.t_meaning.specs.State.{Procedure, State as Made, with_live, entered}
 use Rattle.t_meaning.specs.Outcomes.{Outcome, Value, Escaping, Faulted, Out, Context, Task, Evaluate, Apply, Enter, Doing, or_unbound}
 use Rattle.t_meaning.specs.Operations.{default_of}
 use Rattle.t_meaning.specs.Expressions.{evaluate, with_global}
@@ -31,7 +31,7 @@ use Rattle.cps_conversion.specs.Conversion.{Translation, Stands, ConvertsWithin,
 use Rattle.cps_conversion.specs.Law.{IsCarried}
 use Rattle.cps_conversion.proofs.Zips.{Zipped, Both}
 use Rattle.cps_conversion.proofs.Scopes.{Extends, extends_same, total, total_back, Waits}
-use Rattle.cps_conversion.proofs.Relate.{Kinds, Grown, EntryAs, VariableAs, EnvAs, ProcedureAs, Sync}
+use Rattle.cps_conversion.proofs.Relate.{Kinds, Grown, EntryAs, VariableAs, EnvAs, ProcedureAs, live_of, Sync}
 use Rattle.cps_conversion.proofs.Paths.{waiting_of, Common, Gone, Runs, gone_none, runs_step}
 
 -- ---- whatever is given, no more waits
@@ -43,6 +43,12 @@ module _ (q : CpsProgram) where
       by_test : (b : Bool) → waiting_of (if b then located pending.param v pending.scope t (λ scope u. going (At pending.body scope) u) else going (At pending.body (Bound pending.param (Direct v) ∷ pending.scope)) t) ≡ total t.waiting
       by_test true = refl
       by_test false = refl
+
+  -- also where less waits than at first
+  pub returned_most : (rest ws : List Waiting) (v : Val) (t : State) → t.waiting ≡ ws → total rest ≤ total ws → waiting_of (returned q rest v t) ≤ total ws
+  returned_most [] ws v t e le = omega (arith, ap total e)
+  returned_most (Back pending ∷ rest) ws v t e le = omega (arith, resumed_waits pending v (with_waiting t rest), total_back pending rest, le)
+  returned_most (Live i own ∷ rest) ws v t e le = omega (arith, ap total e)
 
   pub returned_waits : (ws : List Waiting) (v : Val) (t : State) → t.waiting ≡ ws → waiting_of (returned q ws v t) ≤ total ws
   returned_waits [] v t e = omega (arith, ap total e)
@@ -70,6 +76,7 @@ module _ (x : Translation) (M : ℕ) (marks : Marking) (escapes : CpsMarking) wh
     pub shared : x.cps.shared ≡ x.unit.shared
     pub assigned : (v : Var) → cps_assigned x.cps v.0 ≡ is_assigned x.unit v
     pub carried : IsCarried x.origins marks escapes
+    pub some : 0 < M
     pub defaults : (o : ℕ) (kinds : Kinds) (ls : List Val) → Both (ProcedureAs x M kinds ls) (default_of x.unit o) (cps_default_of x.cps o)
 
   -- where a stretch began: the unit's state, the kinds of its locations, and the moves that are owed behind it
@@ -119,7 +126,7 @@ module _ (x : Translation) (M : ℕ) (marks : Marking) (escapes : CpsMarking) wh
     pub kinds : Kinds
     pub lands : d ≡ returned behind rest v state
     pub grown : Grown x b.kinds b.made kinds r
-    pub sync : Sync x M (b.owed + 3) kinds r state
+    pub sync : Sync x M (b.owed + 3) kinds (with_live r (live_of x M state.waiting)) state
 
   abbrev pub Away : List Waiting → Base → Made → ℕ → Val → State → Type 0
   Away ws b r i v d = Escaped (unwound i ws) b r v d
@@ -130,20 +137,28 @@ module _ (x : Translation) (M : ℕ) (marks : Marking) (escapes : CpsMarking) wh
       → Grown x since from kinds s → ConvertsWithin x m c.form bound held key k place → m ≤ M → Waits (way sc k) ws d → total ws ≤ s.deepest → Here bound held sc c.env ws b owed kinds s t
       → Runs behind M (Away ws b) m n (going (At place sc) t) s (part d (Evaluate key c) s) (Given held k sc ws since from owed)
 
+  -- the same where more may wait yet than was deep so far: the bound isn't over
+  abbrev pub LateClaim : ℕ → Doing → Type 0
+  LateClaim n part =
+      (m : ℕ) (c : Context) (key : ℕ) (bound held : List ℕ) (k : Cont) (place d owed : ℕ) (sc : Scope) (ws : List Waiting) (b : Base) (since : Kinds) (from : Made) (kinds : Kinds) (s : Made) (t : State)
+      → Grown x since from kinds s → ConvertsWithin x m c.form bound held key k place → m ≤ M → Waits (way sc k) ws d → Here bound held sc c.env ws b owed kinds s t
+      → Runs behind M (Away ws b) m n (going (At place sc) t) s (part d (Evaluate key c) s) (Given held k sc ws since from owed)
+
   abbrev pub ApplyClaim : ℕ → Doing → Type 0
   ApplyClaim n part =
       (m d owed : ℕ) (g : Val) (args : List Val) (ws : List Waiting) (b : Base) (since : Kinds) (from : Made) (kinds : Kinds) (s : Made) (t : State)
-      → Grown x since from kinds s → total ws ≤ d → total ws ≤ s.deepest → b.owed ≤ owed → Ready ws b (owed + 2 * length args) kinds s t
+      → Grown x since from kinds s → Waits Outwards ws d → total ws ≤ s.deepest → b.owed ≤ owed → Ready ws b (owed + 2 * length args) kinds s t
       → Runs behind M (Away ws b) m n (going (Calling g args) t) s (part d (Apply g args) s) (Returned ws since from owed)
 
   abbrev pub EnterClaim : ℕ → Doing → Type 0
   EnterClaim n part =
       (m d owed : ℕ) (f : Procedure) (c : Closure) (args : List Val) (ws : List Waiting) (b : Base) (since : Kinds) (from : Made) (kinds : Kinds) (s : Made) (t : State)
-      → Grown x since from kinds s → total ws ≤ d → total ws ≤ s.deepest → b.owed ≤ owed → ProcedureAs x M kinds s.locations f c → Ready ws b (owed + 2 * length args) kinds s t
+      → Grown x since from kinds s → Waits Outwards ws d → total ws ≤ s.deepest → b.owed ≤ owed → ProcedureAs x M kinds s.locations f c → Ready ws b (owed + 2 * length args) kinds s t
       → Runs behind M (Away ws b) m n (going (Entering c args) t) s (part d (Enter f args) s) (Returned ws since from owed)
 
   pub record Claims (n : ℕ) : Type 0 where
     pub evaluates : EvalClaim n (perform before n)
+    pub late : (j : ℕ) → n ≡ suc j → LateClaim n (perform before n)
     pub applies : ApplyClaim n (perform before n)
     pub enters : EnterClaim n (perform before n)
 

@@ -10,3 +10,6 @@ pub mod Terms
 pub mod Calls
 pub mod Bindings
 pub mod Lets
+pub mod Applying
+pub mod Tasks
+pub mod Units

@@ -74,18 +74,24 @@ total_back pending ws = omega (arith, sum_by-cons count_of (Back pending) ws)
 pub total_live : (i : ℕ) (own : Option Pending) (ws : List Waiting) → total (Live i own ∷ ws) ≡ count_of (Live i own) + total ws
 total_live i own ws = sum_by-cons count_of (Live i own) ws
 
--- with the continuation that leads there no more waits than that
+-- a call waits first
+abbrev pub IsBack : List Waiting → Type 0
+IsBack [] = ⊥
+IsBack (Back pending ∷ ws) = Unit {0}
+IsBack (Live i own ∷ ws) = ⊥
+
+-- with the continuation that leads there no more waits than that; what leads out leads to a call
 abbrev pub Waits : Way → List Waiting → ℕ → Type 0
-Waits Out ws d = total ws ≤ d
+Waits Out ws d = IsBack ws × (total ws ≤ d)
 Waits (On pending) ws d = suc (total ws) ≤ d
 Waits Lost ws d = ⊥
 
 pub waits_least : (w : Way) (ws : List Waiting) (d : ℕ) → Waits w ws d → total ws ≤ d
-waits_least Out ws d h = h
+waits_least Out ws d h = h.1
 waits_least (On pending) ws d h = omega (arith, h)
 waits_least Lost ws d h = absurd h
 
 pub waits_more : (w : Way) (ws : List Waiting) (d e : ℕ) → d ≤ e → Waits w ws d → Waits w ws e
-waits_more Out ws d e le h = omega (arith, h, le)
+waits_more Out ws d e le h = (h.0, omega (arith, h.1, le))
 waits_more (On pending) ws d e le h = omega (arith, h, le)
 waits_more Lost ws d e le h = h

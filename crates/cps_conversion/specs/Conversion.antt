@@ -14,7 +14,8 @@ use Rattle.t_core.specs.declared.forms.Form.{Form}
 use Rattle.t_core.specs.declared.forms.UnitCore.{UnitCore}
 use Rattle.t_meaning.specs.Programs.{node_at}
 use Rattle.t_meaning.specs.State.{Procedure}
-use Rattle.t_meaning.specs.Operations.{lambda_of}
+use Rattle.t_meaning.specs.Operations.{lambda_of, default_of}
+use Rattle.t_meaning.specs.Units.{start}
 use Rattle.t_meaning.specs.Costs.{is_assigned}
 use Rattle.cps_ir.specs.declared.args.Arg.{Arg}
 use Rattle.cps_ir.specs.declared.args.Arg.TheVariants as Argument
@@ -24,7 +25,10 @@ use Rattle.cps_ir.specs.declared.terms.Lam.{Lam}
 use Rattle.cps_ir.specs.declared.terms.Term.{Term as Step}
 use Rattle.cps_ir.specs.declared.terms.Term.TheVariants as Step
 use Rattle.cps_ir.specs.declared.terms.Cps.{Cps}
-use Rattle.cps_ir.specs.Parts.{is_procedure, global_lams, first_lams, is_assigned as cps_assigned}
+use Rattle.cps_ir.specs.States.{Closure}
+use Rattle.cps_ir.specs.Calls.{default_of as cps_default_of}
+use Rattle.cps_ir.specs.Running.{start as cps_start}
+use Rattle.cps_ir.specs.Parts.{is_procedure, first_lams, is_assigned as cps_assigned}
 use Rattle.cps_ir.specs.Reaches.{is_in}
 
 -- a unit and a program, and for each procedure of the program the LAMBDA that it stands for: its form, and its node there
@@ -329,26 +333,20 @@ FormsAs x conv form (f ∷ forms) before t = (next : ℕ) × (a : Arg) × FormAs
 
 -- ---- the procedures that stand from the start
 
--- the place of the procedure of a global, or of the default of an operation
-abbrev pub global_place : Cps → ℕ → ℕ
-global_place cps g = length (filter is_procedure (take g cps.shared.globals.items))
+-- the closure of a LAMBDA at top level
+abbrev pub RootAs : Translation → Converting → Procedure → Closure → Type 0
+RootAs x conv f c = LamAt x conv f.form [] f.params f.body c.lam
 
-abbrev pub default_place : Cps → ℕ → ℕ
-default_place cps o = global_lams cps + length (filter (λ info. info.default) (take o cps.shared.ops.items))
+abbrev pub RootsAs : Translation → Converting → List Procedure → List Closure → Type 0
+RootsAs x conv [] [] = Unit {0}
+RootsAs x conv (f ∷ fs) (c ∷ cs) = RootAs x conv f c × RootsAs x conv fs cs
+RootsAs x conv _ _ = ⊥
 
-abbrev pub RootAs : Translation → Converting → ℕ → Option Procedure → ℕ → Type 0
-RootAs x conv form (Some f) l = LamAt x conv form [] f.params f.body l
-RootAs x conv form None l = Unit {0}
-
-abbrev pub DefinitionAs : Translation → Converting → ℕ → FormKind → Option Procedure → Type 0
-DefinitionAs x conv form (Define g) f = RootAs x conv form f (global_place x.cps g)
-DefinitionAs x conv form (Lset g) f = Unit {0}
-DefinitionAs x conv form (Operation o) f = RootAs x conv form f (default_place x.cps o)
-DefinitionAs x conv form Plain f = Unit {0}
-
-abbrev pub DefinitionsAs : Translation → Converting → ℕ → List Form → Type 0
-DefinitionsAs x conv form [] = Unit {0}
-DefinitionsAs x conv form (f ∷ forms) = DefinitionAs x conv form f.kind (lambda_of form f) × DefinitionsAs x conv (suc form) forms
+-- both have a default, or none has
+abbrev pub DefaultAs : Translation → Converting → Option Procedure → Option Closure → Type 0
+DefaultAs x conv None None = Unit {0}
+DefaultAs x conv (Some f) (Some c) = RootAs x conv f c
+DefaultAs x conv _ _ = ⊥
 
 -- ---- the whole
 
@@ -359,7 +357,10 @@ pub record IsTranslated (x : Translation) : Type 0 where
   -- a variable is assigned where it was, and no other one is
   pub assigned : (v : Var) → cps_assigned x.cps v.0 ≡ is_assigned x.unit v
   pub forms : FormsAs x (ConvertsWithin x depth) 0 x.unit.forms.items (Argument.Const Constant.Nil) x.cps.entry
-  pub definitions : DefinitionsAs x (ConvertsWithin x depth) 0 x.unit.forms.items
+  -- the closures that stand from the start, with the same numbers, and what globals have then
+  pub closures : RootsAs x (ConvertsWithin x depth) (start x.unit).closures (cps_start x.cps).closures
+  pub globals : (cps_start x.cps).globals ≡ (start x.unit).globals
+  pub defaults : (o : ℕ) → DefaultAs x (ConvertsWithin x depth) (default_of x.unit o) (cps_default_of x.cps o)
 
 pub record Converts (unit : UnitCore) (cps : Cps) : Type 0 where
   pub origins : List (ℕ × ℕ)
