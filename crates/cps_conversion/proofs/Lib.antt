@@ -13,3 +13,5 @@ pub mod Lets
 pub mod Applying
 pub mod Tasks
 pub mod Units
+pub mod Follow
+pub mod Sets

@@ -22,6 +22,7 @@ use Rattle.cps_conversion.proofs.Atoms.{const_runs, local_runs, global_runs, bui
 use Rattle.cps_conversion.proofs.Terms.{prim_runs, if_runs, block_runs, set_global_runs, object_runs}
 use Rattle.cps_conversion.proofs.Calls.{call_runs}
 use Rattle.cps_conversion.proofs.Lets.{let_runs}
+use Rattle.cps_conversion.proofs.Sets.{assigned_by_set, set_local_runs}
 use Rattle.cps_conversion.proofs.Applying.{Call, apply_run, enter_run}
 
 module _ (x : Translation) (M : ℕ) (marks : Marking) (escapes : CpsMarking) (facts : Facts x M marks escapes) where
@@ -37,7 +38,7 @@ module _ (x : Translation) (M : ℕ) (marks : Marking) (escapes : CpsMarking) (f
   node_runs n cl z key (Some (Node.Block items)) e le h = block_runs x M marks escapes facts n cl z items le h
   node_runs n cl z key (Some (Node.Let vars values body)) e le h = let_runs x M marks escapes facts n cl z vars values body le h
   node_runs n cl z key (Some (Node.Labels vars lambdas body)) e le h = ?
-  node_runs n cl z key (Some (Node.SetLocal v value)) e le h = ?
+  node_runs n cl z key (Some (Node.SetLocal v value)) e le h = set_local_runs x M marks escapes facts n cl z v value (assigned_by_set x.unit z.c.form key v value e) le h.0 h.1
   node_runs n cl z key (Some (Node.SetGlobal g value)) e le h = set_global_runs x M marks escapes facts n cl z g value le h.0 h.1
   node_runs n cl z key (Some (Node.Catch v body)) e le h = ?
   node_runs n cl z key (Some (Node.Object proc methods)) e le h = object_runs x M marks escapes facts n cl z proc methods le h

@@ -51,7 +51,7 @@ use Rattle.cps_conversion.proofs.Tasks.{claims}
 none_some : {X Z : Type 0} (v : X) → None ≡ Some v → Z
 none_some v h = cc
 
-no_variable : {Z : Type 0} (y : ℕ) → is_in [] y ≡ true → Z
+pub no_variable : {Z : Type 0} (y : ℕ) → is_in [] y ≡ true → Z
 no_variable y e = absurd (false≢true e)
 
 module _ (x : Translation) (M : ℕ) (marks : Marking) (escapes : CpsMarking) (facts : Facts x M marks escapes) (n depth : ℕ) (shallow : depth ≤ M) (b : Base x M marks escapes) (free : b.owed ≡ 0) where
@@ -150,13 +150,13 @@ module _ (x : Translation) (M : ℕ) (marks : Marking) (escapes : CpsMarking) (f
   form_by form Plain f root place next a sc kinds s t h e gr y = plain_run form root place next a sc kinds s t h e gr y
 
   -- the end
-  record Halted (r : Made) (v : Val) (d : State) : Type 0 where
-    end : d.control ≡ Ended (runs.Value (shown_of r.store v))
-    output : d.store.output ≡ r.store.output
-    heap : d.store.heap ≤ r.store.heap
-    moves : d.moves ≤ 5 * r.work + 5
+  pub record Halted (r : Made) (v : Val) (d : State) : Type 0 where
+    pub end : d.control ≡ Ended (runs.Value (shown_of r.store v))
+    pub output : d.store.output ≡ r.store.output
+    pub heap : d.store.heap ≤ r.store.heap
+    pub moves : d.moves ≤ 5 * r.work + 5
 
-  forms_run : (form : ℕ) (forms : List Form) (a : Arg) (place : ℕ) (held : List ℕ) (sc : Scope) (kinds : Kinds) (s : Made) (t : State) (v : Val) → FormsAs x (ConvertsWithin x depth) form forms a place → ArgMeans x M marks escapes held s.globals sc a v → t.waiting ≡ [] → Grown x b.kinds b.made kinds s → Sync x M 0 kinds s t → Path (going (At place sc) t) s (run_forms (before x M marks escapes) n form forms s v) Halted
+  pub forms_run : (form : ℕ) (forms : List Form) (a : Arg) (place : ℕ) (held : List ℕ) (sc : Scope) (kinds : Kinds) (s : Made) (t : State) (v : Val) → FormsAs x (ConvertsWithin x depth) form forms a place → ArgMeans x M marks escapes held s.globals sc a v → t.waiting ≡ [] → Grown x b.kinds b.made kinds s → Sync x M 0 kinds s t → Path (going (At place sc) t) s (run_forms (before x M marks escapes) n form forms s v) Halted
   forms_run form [] a place held sc kinds s t v h means e gr y =
       let t1 = counting 2 (going (At place sc) t) in
       let d = ended (runs.Value (shown_of t.store v)) t1 in
