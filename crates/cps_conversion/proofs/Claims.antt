@@ -137,12 +137,12 @@ module _ (x : Translation) (M : ℕ) (marks : Marking) (escapes : CpsMarking) wh
       → Grown x since from kinds s → ConvertsWithin x m c.form bound held key k place → m ≤ M → Waits (way sc k) ws d → total ws ≤ s.deepest → Here bound held sc c.env ws b owed kinds s t
       → Runs behind M (Away ws b) m n (going (At place sc) t) s (part d (Evaluate key c) s) (Given held k sc ws since from owed)
 
-  -- the same where more may wait yet than was deep so far: the bound isn't over
+  -- The same where more may wait yet than was deep so far, told from where the depth is noted. The bound isn't over.
   abbrev pub LateClaim : ℕ → Doing → Type 0
   LateClaim n part =
       (m : ℕ) (c : Context) (key : ℕ) (bound held : List ℕ) (k : Cont) (place d owed : ℕ) (sc : Scope) (ws : List Waiting) (b : Base) (since : Kinds) (from : Made) (kinds : Kinds) (s : Made) (t : State)
       → Grown x since from kinds s → ConvertsWithin x m c.form bound held key k place → m ≤ M → Waits (way sc k) ws d → Here bound held sc c.env ws b owed kinds s t
-      → Runs behind M (Away ws b) m n (going (At place sc) t) s (part d (Evaluate key c) s) (Given held k sc ws since from owed)
+      → Runs behind M (Away ws b) m n (going (At place sc) t) (entered d s) (part d (Evaluate key c) s) (Given held k sc ws since from owed)
 
   abbrev pub ApplyClaim : ℕ → Doing → Type 0
   ApplyClaim n part =

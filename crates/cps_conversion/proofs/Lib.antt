@@ -15,3 +15,4 @@ pub mod Tasks
 pub mod Units
 pub mod Follow
 pub mod Sets
+pub mod Catches

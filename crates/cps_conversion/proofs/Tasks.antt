@@ -23,6 +23,7 @@ use Rattle.cps_conversion.proofs.Terms.{prim_runs, if_runs, block_runs, set_glob
 use Rattle.cps_conversion.proofs.Calls.{call_runs}
 use Rattle.cps_conversion.proofs.Lets.{let_runs}
 use Rattle.cps_conversion.proofs.Sets.{assigned_by_set, set_local_runs}
+use Rattle.cps_conversion.proofs.Catches.{catch_runs}
 use Rattle.cps_conversion.proofs.Applying.{Call, apply_run, enter_run}
 
 module _ (x : Translation) (M : ℕ) (marks : Marking) (escapes : CpsMarking) (facts : Facts x M marks escapes) where
@@ -40,7 +41,7 @@ module _ (x : Translation) (M : ℕ) (marks : Marking) (escapes : CpsMarking) (f
   node_runs n cl z key (Some (Node.Labels vars lambdas body)) e le h = ?
   node_runs n cl z key (Some (Node.SetLocal v value)) e le h = set_local_runs x M marks escapes facts n cl z v value (assigned_by_set x.unit z.c.form key v value e) le h.0 h.1
   node_runs n cl z key (Some (Node.SetGlobal g value)) e le h = set_global_runs x M marks escapes facts n cl z g value le h.0 h.1
-  node_runs n cl z key (Some (Node.Catch v body)) e le h = ?
+  node_runs n cl z key (Some (Node.Catch v body)) e le h = catch_runs x M marks escapes facts n cl z v body le h
   node_runs n cl z key (Some (Node.Object proc methods)) e le h = object_runs x M marks escapes facts n cl z proc methods le h
   node_runs n cl z key (Some (Node.Call operator operands tail)) e le h = call_runs x M marks escapes facts n cl z operator operands le h
   node_runs n cl z key (Some (Node.Prim b operands)) e le h = prim_runs x M marks escapes facts n cl z b operands le h
@@ -48,7 +49,7 @@ module _ (x : Translation) (M : ℕ) (marks : Marking) (escapes : CpsMarking) (f
   late_next : (n : ℕ) → Claims x M marks escapes n → LateClaim x M marks escapes (suc n) (perform (before x M marks escapes) (suc n))
   late_next n cl zero c key bound held k place d owed sc ws b since from kinds s t grown h le waits here = absurd h
   late_next n cl (suc m) c key bound held k place d owed sc ws b since from kinds s t grown h le waits here =
-      runs_node (behind x M marks escapes) M (Away x M marks escapes ws b) m n (going (At place sc) t) s (entered d s) (evaluate (before x M marks escapes) (perform (before x M marks escapes) n) d key c (node_at x.unit c.form key) (entered d s)) (Given x M marks escapes held k sc ws since from owed) (omega arith)
+      runs_node (behind x M marks escapes) M (Away x M marks escapes ws b) m n (going (At place sc) t) (entered d s) (entered d s) (evaluate (before x M marks escapes) (perform (before x M marks escapes) n) d key c (node_at x.unit c.form key) (entered d s)) (Given x M marks escapes held k sc ws since from owed) (omega arith)
         (node_runs n cl (record {
           m = m; c = c; bound = bound; held = held; k = k; place = place; d = d; has = owed + 5; owed = owed; sc = sc; ws = ws; b = b; since = since; from = from; kinds = kinds; s = entered d s; t = t;
           shallow = omega (arith, le);
@@ -92,7 +93,7 @@ module _ (x : Translation) (M : ℕ) (marks : Marking) (escapes : CpsMarking) (f
     enters = λ m d owed f c args ws b since from kinds s t grown waits deep least a y. out_now x M marks escapes (Away x M marks escapes ws b) m owed (going (Entering c args) t) kinds s t (Returned x M marks escapes ws since from owed) (omega (arith, deep, ap total y.waiting)) refl (common_of x M marks escapes (owed + 2 * length args) kinds s t y.sync);
   }
   claims (suc n) = let cl = claims n in record {
-    evaluates = λ m c key bound held k place d owed sc ws b since from kinds s t grown h le waits deep here. late_next n cl m c key bound held k place d owed sc ws b since from kinds s t grown h le waits here;
+    evaluates = λ m c key bound held k place d owed sc ws b since from kinds s t grown h le waits deep here. runs_since (behind x M marks escapes) M (Away x M marks escapes ws b) m (suc n) (going (At place sc) t) s (entered d s) (perform (before x M marks escapes) (suc n) d (Evaluate key c) s) (Given x M marks escapes held k sc ws since from owed) (omega arith) (late_next n cl m c key bound held k place d owed sc ws b since from kinds s t grown h le waits here);
     late = λ j e. late_next n cl;
     applies = apply_next n cl;
     enters = enter_next n cl;
