@@ -31,6 +31,14 @@ use Rattle.cps_conversion.proofs.Claims.{before, behind, Facts, Claims, step_at,
 use Rattle.cps_conversion.proofs.Operands.{given_plain}
 use Rattle.cps_conversion.proofs.Spots.{Spot, at, Goal, part, atom, fails}
 
+module _ (x : Translation) (M : ℕ) (marks : Marking) (escapes : CpsMarking) (facts : Facts x M marks escapes) where
+  -- a closure takes the words that its LAMBDA takes
+  pub lambda_words_as : (form key l : ℕ) (bound : List ℕ) (m : ℕ) (params : List Var) (body : ℕ) → LambdaAt x (ConvertsWithin x m) form bound key params body l → lam_words (behind x M marks escapes) l ≡ lambda_words (before x M marks escapes) form key
+  lambda_words_as form key l bound m params body a =
+      ap (λ b. if b then 0 else if escapes l then cps_record_words x.cps else 0) (le-ltb l (first_lams x.cps) a.behind)
+      ∙ ap (λ b. if b then cps_record_words x.cps else 0) (facts.carried l form key a.origin)
+      ∙ ap (λ sh. if marks form key then 4 + sh.size else 0) facts.shared
+
 module _ (x : Translation) (M : ℕ) (marks : Marking) (escapes : CpsMarking) (facts : Facts x M marks escapes) (n : ℕ) (cl : Claims x M marks escapes n) where
   abbrev S : Type 0
   S = Spot x M marks escapes facts n cl
@@ -103,12 +111,6 @@ module _ (x : Translation) (M : ℕ) (marks : Marking) (escapes : CpsMarking) (f
 
   -- ---- LAMBDAs
 
-  pub words_as : (form key l : ℕ) (bound : List ℕ) (m : ℕ) (params : List Var) (body : ℕ) → LambdaAt x (ConvertsWithin x m) form bound key params body l → lam_words (behind x M marks escapes) l ≡ lambda_words (before x M marks escapes) form key
-  words_as form key l bound m params body a =
-      ap (λ b. if b then 0 else if escapes l then cps_record_words x.cps else 0) (le-ltb l (first_lams x.cps) a.behind)
-      ∙ ap (λ b. if b then cps_record_words x.cps else 0) (facts.carried l form key a.origin)
-      ∙ ap (λ sh. if marks form key then 4 + sh.size else 0) facts.shared
-
   -- one more closure on both sides
   pub closing_sync : (owed w w2 : ℕ) (kinds : Kinds) (s : Made) (t : State) (f : Procedure) (c : Closure) → w2 ≡ w → ProcedureAs x M kinds s.locations f c → Sync x M owed kinds s t → Sync x M owed kinds (taken w (with_closure s f)) (taking w2 (with_closures t (c ∷ [])))
   closing_sync owed w w2 kinds s t f c e a y = record {
@@ -136,7 +138,7 @@ module _ (x : Translation) (M : ℕ) (marks : Marking) (escapes : CpsMarking) (f
       atom x M marks escapes facts n cl z z.kinds (taken w (with_closure z.s f)) (ClosureV (length z.s.closures)) (taking w2 (with_closures (counting 2 (at x M marks escapes facts n cl z)) (k ∷ [])))
         (e ∙ ap (λ i. give (behind x M marks escapes) z.sc z.k (ClosureV i) (taking w2 (with_closures (counting 2 (at x M marks escapes facts n cl z)) (k ∷ [])))) count)
         (omega arith) (grown_same x z.kinds z.s (taken w (with_closure z.s f)) refl refl) z.here.ready.waiting
-        (closing_sync (z.owed + 3) w w2 z.kinds z.s (counting 2 (at x M marks escapes facts n cl z)) f k (we ∙ words_as z.c.form key l z.bound z.m params body a)
+        (closing_sync (z.owed + 3) w w2 z.kinds z.s (counting 2 (at x M marks escapes facts n cl z)) f k (we ∙ lambda_words_as x M marks escapes facts z.c.form key l z.bound z.m params body a)
           (record { depth = z.m; bound = z.bound; shallow = z.shallow; lam_at = a.lam_at; env_as = ea })
           (record { world = y.world; moves = omega (arith, y.moves, le) }))
 

@@ -35,7 +35,7 @@ unwound_live : (i j : ℕ) (own : Option Pending) (ws : List Waiting) → unwoun
 unwound_live i j None ws = refl
 unwound_live i j (Some pending) ws = refl
 
-zero_or : (n : ℕ) → (n ≡ 0) ⊎ ((j : ℕ) × (n ≡ suc j))
+pub zero_or : (n : ℕ) → (n ≡ 0) ⊎ ((j : ℕ) × (n ≡ suc j))
 zero_or zero = inl refl
 zero_or (suc j) = inr (j, refl)
 

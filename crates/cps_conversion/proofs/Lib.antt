@@ -16,3 +16,4 @@ pub mod Units
 pub mod Follow
 pub mod Sets
 pub mod Catches
+pub mod Labels

@@ -24,6 +24,7 @@ use Rattle.cps_conversion.proofs.Calls.{call_runs}
 use Rattle.cps_conversion.proofs.Lets.{let_runs}
 use Rattle.cps_conversion.proofs.Sets.{assigned_by_set, set_local_runs}
 use Rattle.cps_conversion.proofs.Catches.{catch_runs}
+use Rattle.cps_conversion.proofs.Labels.{labels_runs}
 use Rattle.cps_conversion.proofs.Applying.{Call, apply_run, enter_run}
 
 module _ (x : Translation) (M : ℕ) (marks : Marking) (escapes : CpsMarking) (facts : Facts x M marks escapes) where
@@ -38,7 +39,7 @@ module _ (x : Translation) (M : ℕ) (marks : Marking) (escapes : CpsMarking) (f
   node_runs n cl z key (Some (Node.If test first second)) e le h = if_runs x M marks escapes facts n cl z test first second le h
   node_runs n cl z key (Some (Node.Block items)) e le h = block_runs x M marks escapes facts n cl z items le h
   node_runs n cl z key (Some (Node.Let vars values body)) e le h = let_runs x M marks escapes facts n cl z vars values body le h
-  node_runs n cl z key (Some (Node.Labels vars lambdas body)) e le h = ?
+  node_runs n cl z key (Some (Node.Labels vars lambdas body)) e le h = labels_runs x M marks escapes facts n cl z vars lambdas body le h
   node_runs n cl z key (Some (Node.SetLocal v value)) e le h = set_local_runs x M marks escapes facts n cl z v value (assigned_by_set x.unit z.c.form key v value e) le h.0 h.1
   node_runs n cl z key (Some (Node.SetGlobal g value)) e le h = set_global_runs x M marks escapes facts n cl z g value le h.0 h.1
   node_runs n cl z key (Some (Node.Catch v body)) e le h = catch_runs x M marks escapes facts n cl z v body le h
