@@ -19,7 +19,7 @@ use Rattle.t_meaning.specs.Programs.{Marking, all_escape}
 use Rattle.t_meaning.specs.State.{Procedure, State as Made}
 use Rattle.t_meaning.specs.Outcomes.{Outcome, Value, Escaping, Faulted, Out}
 use Rattle.t_meaning.specs.Operations.{lambda_of, default_of}
-use Rattle.t_meaning.specs.Units.{bare_state, with_definition, with_definitions, start, run_forms, outcome, observed, meaning}
+use Rattle.t_meaning.specs.Units.{start, run_forms, outcome, observed, meaning}
 use Rattle.cps_ir.specs.declared.args.Arg.TheVariants as Argument
 use Rattle.cps_ir.specs.declared.terms.Cps.{Cps}
 use Rattle.cps_ir.specs.Parts.{is_procedure}
@@ -36,29 +36,6 @@ use Rattle.cps_conversion.proofs.Claims.{before, behind, Facts, Base, Escaped, A
 use Rattle.cps_conversion.proofs.Units.{Halted, forms_run, no_variable}
 
 -- ---- the start
-
--- what is as it was, whatever is defined
-record Begins (unit : UnitCore) (s : Made) : Type 0 where
-  store : s.store ≡ first_store unit.shared
-  locations : s.locations ≡ []
-  objects : s.objects ≡ []
-  live : s.live ≡ []
-  catches : s.catches ≡ 0
-  work : s.work ≡ 0
-
-definition_begins : (unit : UnitCore) (kind : FormKind) (f : Option Procedure) (s : Made) → Begins unit s → Begins unit (with_definition kind f s)
-definition_begins unit (Define g) (Some f) s h = record { store = h.store; locations = h.locations; objects = h.objects; live = h.live; catches = h.catches; work = h.work }
-definition_begins unit (Define g) None s h = h
-definition_begins unit (Lset g) f s h = h
-definition_begins unit (Operation o) f s h = h
-definition_begins unit Plain f s h = h
-
-definitions_begin : (unit : UnitCore) (form : ℕ) (forms : List Form) (s : Made) → Begins unit s → Begins unit (with_definitions form forms s)
-definitions_begin unit form [] s h = h
-definitions_begin unit form (f ∷ forms) s h = definitions_begin unit (suc form) forms (with_definition f.kind (lambda_of form f) s) (definition_begins unit f.kind (lambda_of form f) s h)
-
-begins : (unit : UnitCore) → Begins unit (start unit)
-begins unit = definitions_begin unit 0 unit.forms.items (bare_state unit) (record { store = refl; locations = refl; objects = refl; live = refl; catches = refl; work = refl })
 
 -- the procedures of globals have values from the start
 procs_begin : (globals : List Global1) (next g : ℕ) → option_map_or is_procedure (slice_get globals g) false ≡ true → (v : Val) × (slice_get (first_globals next globals) g ≡ Some (Some v))
@@ -101,20 +78,18 @@ module _ (x : Translation) (marks : Marking) (escapes : CpsMarking) (c : IsTrans
   }
 
   begun : Sync x M 0 [] (start x.unit) (cps_start x.cps)
-  begun =
-      let h = begins x.unit in
-      record {
-        world = record {
-          store_as = ap first_store c.shared ∙ sym h.store;
-          globals_as = c.globals;
-          catches_as = sym h.catches;
-          live_as = sym h.live;
-          locations_as = subst (λ l. LocationsAs [] l []) (sym h.locations) (record { as_many = refl; within = λ l m e. nothing (Some m) e; same = λ l m e. nothing (Some m) e; apart = λ l j m e f. nothing (Some m) e });
-          closures_as = roots_as [] (start x.unit).locations (start x.unit).closures (cps_start x.cps).closures c.closures;
-          objects_as = subst (λ l. Zipped (ThingAs x M [] (start x.unit).locations) l []) (sym h.objects) tt;
-        };
-        moves = omega arith;
-      }
+  begun = record {
+      world = record {
+        store_as = ap first_store c.shared;
+        globals_as = c.globals;
+        catches_as = refl;
+        live_as = refl;
+        locations_as = record { as_many = refl; within = λ l m e. nothing (Some m) e; same = λ l m e. nothing (Some m) e; apart = λ l j m e f. nothing (Some m) e };
+        closures_as = roots_as [] [] (start x.unit).closures (cps_start x.cps).closures c.closures;
+        objects_as = tt;
+      };
+      moves = omega arith;
+    }
     where
       nothing : {Z : Type 0} (o : Option ℕ) → None ≡ Some o → Z
       nothing o e = cc

@@ -122,24 +122,24 @@ module _ (x : Translation) (M : ℕ) (marks : Marking) (escapes : CpsMarking) wh
   filled d c l [] s = s
   filled d c l (k ∷ ks) s = filled d c (suc l) ks (filled_one d c l k s)
 
-  lambda_closes : (part : Doing) (d key : ℕ) (c : Context) (bound : List ℕ) (m l : ℕ) (s : Made) (go : Made → Val → Outcome) (o : Option Core) → LambdaNode x (ConvertsWithin x m) c.form bound key o l → with_value (evaluate (before x M marks escapes) part d key c o s) go ≡ go (taken (lambda_words (before x M marks escapes) c.form key) (with_closure s (procedure_at c.form c.env o))) (ClosureV (length s.closures))
-  lambda_closes part d key c bound m l s go None h = absurd h
-  lambda_closes part d key c bound m l s go (Some (Node.Lambda params body)) h = refl
-  lambda_closes part d key c bound m l s go (Some (Node.Const k)) h = absurd h
-  lambda_closes part d key c bound m l s go (Some (Node.Local v)) h = absurd h
-  lambda_closes part d key c bound m l s go (Some (Node.Global g)) h = absurd h
-  lambda_closes part d key c bound m l s go (Some (Node.Builtin b)) h = absurd h
-  lambda_closes part d key c bound m l s go (Some (Node.Op k)) h = absurd h
-  lambda_closes part d key c bound m l s go (Some (Node.If test first second)) h = absurd h
-  lambda_closes part d key c bound m l s go (Some (Node.Block items)) h = absurd h
-  lambda_closes part d key c bound m l s go (Some (Node.Let vars values body)) h = absurd h
-  lambda_closes part d key c bound m l s go (Some (Node.Labels vars lambdas body)) h = absurd h
-  lambda_closes part d key c bound m l s go (Some (Node.SetLocal v value)) h = absurd h
-  lambda_closes part d key c bound m l s go (Some (Node.SetGlobal g value)) h = absurd h
-  lambda_closes part d key c bound m l s go (Some (Node.Catch v body)) h = absurd h
-  lambda_closes part d key c bound m l s go (Some (Node.Object proc methods)) h = absurd h
-  lambda_closes part d key c bound m l s go (Some (Node.Call operator operands tail)) h = absurd h
-  lambda_closes part d key c bound m l s go (Some (Node.Prim b operands)) h = absurd h
+  lambda_closes : (does : Doing) (d key : ℕ) (c : Context) (bound : List ℕ) (m l : ℕ) (s : Made) (go : Made → Val → Outcome) (o : Option Core) → LambdaNode x (ConvertsWithin x m) c.form bound key o l → with_value (evaluate (before x M marks escapes) does d key c o s) go ≡ go (taken (lambda_words (before x M marks escapes) c.form key) (with_closure s (procedure_at c.form c.env o))) (ClosureV (length s.closures))
+  lambda_closes does d key c bound m l s go None h = absurd h
+  lambda_closes does d key c bound m l s go (Some (Node.Lambda params body)) h = refl
+  lambda_closes does d key c bound m l s go (Some (Node.Const k)) h = absurd h
+  lambda_closes does d key c bound m l s go (Some (Node.Local v)) h = absurd h
+  lambda_closes does d key c bound m l s go (Some (Node.Global g)) h = absurd h
+  lambda_closes does d key c bound m l s go (Some (Node.Builtin b)) h = absurd h
+  lambda_closes does d key c bound m l s go (Some (Node.Op k)) h = absurd h
+  lambda_closes does d key c bound m l s go (Some (Node.If test first second)) h = absurd h
+  lambda_closes does d key c bound m l s go (Some (Node.Block items)) h = absurd h
+  lambda_closes does d key c bound m l s go (Some (Node.Let vars values body)) h = absurd h
+  lambda_closes does d key c bound m l s go (Some (Node.Labels vars lambdas body)) h = absurd h
+  lambda_closes does d key c bound m l s go (Some (Node.SetLocal v value)) h = absurd h
+  lambda_closes does d key c bound m l s go (Some (Node.SetGlobal g value)) h = absurd h
+  lambda_closes does d key c bound m l s go (Some (Node.Catch v body)) h = absurd h
+  lambda_closes does d key c bound m l s go (Some (Node.Object proc methods)) h = absurd h
+  lambda_closes does d key c bound m l s go (Some (Node.Call operator operands tail)) h = absurd h
+  lambda_closes does d key c bound m l s go (Some (Node.Prim b operands)) h = absurd h
 
   filling_is : (j d : ℕ) (c : Context) (bound : List ℕ) (m l : ℕ) (keys lams : List ℕ) (s : Made) (rest : Made → Outcome) → LambdaNodes x (ConvertsWithin x m) c.form bound keys lams → filling (perform (before x M marks escapes) (suc j)) d c l keys s rest ≡ rest (filled d c l keys s)
   filling_is j d c bound m l [] [] s rest h = refl

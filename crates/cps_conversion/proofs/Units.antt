@@ -24,7 +24,7 @@ use Rattle.t_meaning.specs.State.{Procedure, State as Made, with_global_at as gl
 use Rattle.t_meaning.specs.Outcomes.{Outcome, Value, Escaping, Faulted, Out, Context, Evaluate, Doing, with_value, or_unbound}
 use Rattle.t_meaning.specs.Operations.{lambda_of, default_of}
 use Rattle.t_meaning.specs.Performing.{perform}
-use Rattle.t_meaning.specs.Units.{bare_state, with_definition, with_definitions, start, name_of_global, name_of_op, storing, form_gives, run_form, run_forms, outcome, observed, meaning}
+use Rattle.t_meaning.specs.Units.{start, name_of_global, name_of_op, storing, form_gives, run_form, run_forms, outcome, observed, meaning}
 use Rattle.cps_ir.specs.declared.args.Arg.{Arg}
 use Rattle.cps_ir.specs.declared.args.Arg.TheVariants as Argument
 use Rattle.cps_ir.specs.declared.terms.Cont.TheVariants as Continuation
