@@ -1,35 +1,33 @@
 -- Nodes without parts: constants, variables, globals, builtins, operations; and LAMBDAs.
-use Rattle.std.proofs.Common.{◌≡◌, ℕ, zero, suc, ◌+◌, ◌*◌, ◌≤◌, ◌<◌, ◌⊎◌, nat_lt, Bool, true, false, if◌then◌else◌, List, [], ◌∷◌, ◌++◌, length, sum_by, Option, Some, None, option_and_then, slice_get, refl, sym, ap, ◌∙◌, subst, arith, le_trans, inl, inr, ⊎_elim}
+use Rattle.std.proofs.Common.{◌≡◌, ℕ, ◌+◌, ◌≤◌, Bool, true, false, if◌then◌else◌, List, [], ◌∷◌, length, sum_by, Option, Some, None, option_and_then, slice_get, refl, sym, ap, ◌∙◌, subst, arith}
 use Rattle.std.proofs.lemmas.Bool.{le-ltb}
 use Rattle.t_base.specs.declared.basics.Var.{Var}
 use Rattle.t_base.specs.declared.faults.Fault.TheVariants.{Unbound}
 use Rattle.t_base.specs.declared.shared_parts.Const.{Const}
 use Rattle.t_base.specs.declared.builtins.Builtin.{Builtin}
 use Rattle.t_prim.specs.Values.{Val, Store, val_of, ClosureV, BuiltinV, OperationV}
-use Rattle.t_core.specs.declared.forms.Core.TheVariants as Node
 use Rattle.t_meaning.specs.Programs.{Marking}
 use Rattle.t_meaning.specs.Environment.{location_of}
-use Rattle.t_meaning.specs.Costs.{is_assigned, lambda_words, record_words}
+use Rattle.t_meaning.specs.Costs.{is_assigned, lambda_words}
 use Rattle.t_meaning.specs.State.{Procedure, State as Made, taking as taken, with_closure}
 use Rattle.t_meaning.specs.Outcomes.{Outcome, Value, Faulted, or_unbound}
-use Rattle.t_meaning.specs.Expressions.{evaluate, closing as closed}
+use Rattle.t_meaning.specs.Expressions.{closing as closed}
 use Rattle.cps_ir.specs.declared.args.Arg.TheVariants as Argument
 use Rattle.cps_ir.specs.declared.terms.Cont.{Cont}
 use Rattle.cps_ir.specs.declared.terms.Cont.TheVariants as Continuation
-use Rattle.cps_ir.specs.declared.terms.Term.{Term}
 use Rattle.cps_ir.specs.declared.terms.Term.TheVariants as Step
-use Rattle.cps_ir.specs.Parts.{first_lams, is_assigned as cps_assigned}
-use Rattle.cps_ir.specs.States.{Marking as CpsMarking, Meant, Direct, InLocation, Bound, Scope, Closure, State, At, going, counting, faulted, taking, with_closures}
+use Rattle.cps_ir.specs.Parts.{first_lams}
+use Rattle.cps_ir.specs.States.{Marking as CpsMarking, Direct, Bound, Scope, Closure, State, At, going, counting, faulted, taking, with_closures}
 use Rattle.cps_ir.specs.Giving.{or_unbound as cps_unbound, meant_by, value_of, lam_words, record_words as cps_record_words, closing, located, give}
 use Rattle.cps_ir.specs.Running.{step}
 use Rattle.cps_ir.specs.Reaches.{is_in}
-use Rattle.cps_conversion.specs.Conversion.{Translation, Stands, ConvertsWithin, is_proc, LambdaAt, LambdaFor, ConvertsNode}
-use Rattle.cps_conversion.proofs.Zips.{Zipped, zipped_append, zipped_length}
-use Rattle.cps_conversion.proofs.Scopes.{Extends, extends_bound, total}
-use Rattle.cps_conversion.proofs.Relate.{Kinds, grown_same, EntryAs, EnvAs, env_extends, ProcedureAs, World, Alike, live_of, Sync}
+use Rattle.cps_conversion.specs.Conversion.{Translation, Stands, ConvertsWithin, is_proc, LambdaAt, LambdaFor}
+use Rattle.cps_conversion.proofs.Zips.{zipped_append, zipped_length}
+use Rattle.cps_conversion.proofs.Scopes.{extends_bound}
+use Rattle.cps_conversion.proofs.Relate.{Kinds, grown_same, EntryAs, EnvAs, env_extends, ProcedureAs, Sync}
 use Rattle.cps_conversion.proofs.Claims.{before, behind, Facts, Claims, step_at, common_of}
 use Rattle.cps_conversion.proofs.Operands.{given_plain}
-use Rattle.cps_conversion.proofs.Spots.{Spot, at, Goal, part, atom, fails}
+use Rattle.cps_conversion.proofs.Spots.{Spot, at, Goal, atom, fails}
 
 module _ (x : Translation) (M : ℕ) (marks : Marking) (escapes : CpsMarking) (facts : Facts x M marks escapes) where
   -- a closure takes the words that its LAMBDA takes
@@ -67,8 +65,8 @@ module _ (x : Translation) (M : ℕ) (marks : Marking) (escapes : CpsMarking) (f
   -- ---- globals
 
   global_by : (z : S) (g k : ℕ) → z.owed + 3 + k ≤ z.has → (o : Option (Option Val)) → slice_get z.s.globals g ≡ o
-    → step (behind x M marks escapes) (at x M marks escapes facts n cl z) ≡ cps_unbound (slice_get z.t.globals g) (counting k (at x M marks escapes facts n cl z)) (λ global. cps_unbound global (counting k (at x M marks escapes facts n cl z)) (λ v. give (behind x M marks escapes) z.sc z.k v (counting k (at x M marks escapes facts n cl z))))
-    → G z (or_unbound o z.s (λ global. or_unbound global z.s (λ v. Value z.s v)))
+      → step (behind x M marks escapes) (at x M marks escapes facts n cl z) ≡ cps_unbound (slice_get z.t.globals g) (counting k (at x M marks escapes facts n cl z)) (λ global. cps_unbound global (counting k (at x M marks escapes facts n cl z)) (λ v. give (behind x M marks escapes) z.sc z.k v (counting k (at x M marks escapes facts n cl z))))
+      → G z (or_unbound o z.s (λ global. or_unbound global z.s (λ v. Value z.s v)))
   global_by z g k le o f e = by_case o (e ∙ ap (λ l. cps_unbound l (counting k (at x M marks escapes facts n cl z)) (λ global. cps_unbound global (counting k (at x M marks escapes facts n cl z)) (λ v. give (behind x M marks escapes) z.sc z.k v (counting k (at x M marks escapes facts n cl z))))) (ap (λ l. slice_get l g) z.here.ready.sync.world.globals_as ∙ f))
     where
       by_case : (p : Option (Option Val)) → step (behind x M marks escapes) (at x M marks escapes facts n cl z) ≡ cps_unbound p (counting k (at x M marks escapes facts n cl z)) (λ global. cps_unbound global (counting k (at x M marks escapes facts n cl z)) (λ v. give (behind x M marks escapes) z.sc z.k v (counting k (at x M marks escapes facts n cl z)))) → G z (or_unbound p z.s (λ global. or_unbound global z.s (λ v. Value z.s v)))
@@ -86,8 +84,8 @@ module _ (x : Translation) (M : ℕ) (marks : Marking) (escapes : CpsMarking) (f
   -- ---- variables
 
   cell_by : (z : S) (i l : ℕ) → z.owed + 5 ≤ z.has → slice_get z.t.locations i ≡ slice_get z.s.locations l
-    → step (behind x M marks escapes) (at x M marks escapes facts n cl z) ≡ cps_unbound (slice_get z.t.locations i) (counting 2 (at x M marks escapes facts n cl z)) (λ v. give (behind x M marks escapes) z.sc z.k v (counting 2 (at x M marks escapes facts n cl z)))
-    → G z (or_unbound (slice_get z.s.locations l) z.s (λ v. Value z.s v))
+      → step (behind x M marks escapes) (at x M marks escapes facts n cl z) ≡ cps_unbound (slice_get z.t.locations i) (counting 2 (at x M marks escapes facts n cl z)) (λ v. give (behind x M marks escapes) z.sc z.k v (counting 2 (at x M marks escapes facts n cl z)))
+      → G z (or_unbound (slice_get z.s.locations l) z.s (λ v. Value z.s v))
   cell_by z i l le same e = by_case (slice_get z.s.locations l) (e ∙ ap (λ o. cps_unbound o (counting 2 (at x M marks escapes facts n cl z)) (λ v. give (behind x M marks escapes) z.sc z.k v (counting 2 (at x M marks escapes facts n cl z)))) same)
     where
       by_case : (o : Option Val) → step (behind x M marks escapes) (at x M marks escapes facts n cl z) ≡ cps_unbound o (counting 2 (at x M marks escapes facts n cl z)) (λ v. give (behind x M marks escapes) z.sc z.k v (counting 2 (at x M marks escapes facts n cl z))) → G z (or_unbound o z.s (λ v. Value z.s v))
@@ -99,7 +97,7 @@ module _ (x : Translation) (M : ℕ) (marks : Marking) (escapes : CpsMarking) (f
   entry_by z v l (Some None) le h e a =
       let w = a.1 in
       subst (λ o. G z (or_unbound o z.s (λ u. Value z.s u))) (sym w.1)
-        (plainly z w.0 2 (omega (arith, le)) (step_at x M marks escapes z.place z.sc z.t (Step.Give z.k (Argument.Var v)) h ∙ ap (λ o. cps_unbound (option_and_then (value_of (counting 2 (at x M marks escapes facts n cl z))) o) (counting 2 (at x M marks escapes facts n cl z)) (λ u. give (behind x M marks escapes) z.sc z.k u (counting 2 (at x M marks escapes facts n cl z)))) w.2))
+      (plainly z w.0 2 (omega (arith, le)) (step_at x M marks escapes z.place z.sc z.t (Step.Give z.k (Argument.Var v)) h ∙ ap (λ o. cps_unbound (option_and_then (value_of (counting 2 (at x M marks escapes facts n cl z))) o) (counting 2 (at x M marks escapes facts n cl z)) (λ u. give (behind x M marks escapes) z.sc z.k u (counting 2 (at x M marks escapes facts n cl z)))) w.2))
   entry_by z v l (Some (Some i)) le h e a =
       cell_by z i l le (z.here.ready.sync.world.locations_as.same l i e) (step_at x M marks escapes z.place z.sc z.t (Step.Give z.k (Argument.Var v)) h ∙ ap (λ o. cps_unbound (option_and_then (value_of (counting 2 (at x M marks escapes facts n cl z))) o) (counting 2 (at x M marks escapes facts n cl z)) (λ u. give (behind x M marks escapes) z.sc z.k u (counting 2 (at x M marks escapes facts n cl z)))) a.1)
 
@@ -107,7 +105,7 @@ module _ (x : Translation) (M : ℕ) (marks : Marking) (escapes : CpsMarking) (f
   local_runs z v le i h =
       let a = z.here.env_as v.0 i in
       subst (λ o. G z (or_unbound o z.s (λ l. or_unbound (slice_get z.s.locations l) z.s (λ w. Value z.s w)))) (sym a.found)
-        (entry_by z v a.location (slice_get z.kinds a.location) le h refl a.entry)
+      (entry_by z v a.location (slice_get z.kinds a.location) le h refl a.entry)
 
   -- ---- LAMBDAs
 
@@ -127,8 +125,8 @@ module _ (x : Translation) (M : ℕ) (marks : Marking) (escapes : CpsMarking) (f
   }
 
   lambda_gives : (z : S) (key : ℕ) (params : List Var) (body l : ℕ) (sd : Scope) → z.owed + 5 ≤ z.has → LambdaAt x (ConvertsWithin x z.m) z.c.form z.bound key params body l → EnvAs x z.bound z.kinds z.s.locations z.c.env sd → (w2 : ℕ) → w2 ≡ lam_words (behind x M marks escapes) l
-    → step (behind x M marks escapes) (at x M marks escapes facts n cl z) ≡ give (behind x M marks escapes) z.sc z.k (ClosureV (length z.t.closures)) (taking w2 (with_closures (counting 2 (at x M marks escapes facts n cl z)) (record { lam = l; scope = sd } ∷ [])))
-    → G z (closed (before x M marks escapes) key (record { params = params; form = z.c.form; body = body; env = z.c.env }) z.s)
+      → step (behind x M marks escapes) (at x M marks escapes facts n cl z) ≡ give (behind x M marks escapes) z.sc z.k (ClosureV (length z.t.closures)) (taking w2 (with_closures (counting 2 (at x M marks escapes facts n cl z)) (record { lam = l; scope = sd } ∷ [])))
+      → G z (closed (before x M marks escapes) key (record { params = params; form = z.c.form; body = body; env = z.c.env }) z.s)
   lambda_gives z key params body l sd le a ea w2 we e =
       let w = lambda_words (before x M marks escapes) z.c.form key in
       let f : Procedure = record { params = params; form = z.c.form; body = body; env = z.c.env } in
@@ -136,17 +134,17 @@ module _ (x : Translation) (M : ℕ) (marks : Marking) (escapes : CpsMarking) (f
       let y = z.here.ready.sync in
       let count : length z.t.closures ≡ length z.s.closures = zipped_length (ProcedureAs x M z.kinds z.s.locations) z.s.closures z.t.closures y.world.closures_as in
       atom x M marks escapes facts n cl z z.kinds (taken w (with_closure z.s f)) (ClosureV (length z.s.closures)) (taking w2 (with_closures (counting 2 (at x M marks escapes facts n cl z)) (k ∷ [])))
-        (e ∙ ap (λ i. give (behind x M marks escapes) z.sc z.k (ClosureV i) (taking w2 (with_closures (counting 2 (at x M marks escapes facts n cl z)) (k ∷ [])))) count)
-        (omega arith) (grown_same x z.kinds z.s (taken w (with_closure z.s f)) refl refl) z.here.ready.waiting
-        (closing_sync (z.owed + 3) w w2 z.kinds z.s (counting 2 (at x M marks escapes facts n cl z)) f k (we ∙ lambda_words_as x M marks escapes facts z.c.form key l z.bound z.m params body a)
-          (record { depth = z.m; bound = z.bound; shallow = z.shallow; lam_at = a.lam_at; env_as = ea })
-          (record { world = y.world; moves = omega (arith, y.moves, le) }))
+      (e ∙ ap (λ i. give (behind x M marks escapes) z.sc z.k (ClosureV i) (taking w2 (with_closures (counting 2 (at x M marks escapes facts n cl z)) (k ∷ [])))) count)
+      (omega arith) (grown_same x z.kinds z.s (taken w (with_closure z.s f)) refl refl) z.here.ready.waiting
+      (closing_sync (z.owed + 3) w w2 z.kinds z.s (counting 2 (at x M marks escapes facts n cl z)) f k (we ∙ lambda_words_as x M marks escapes facts z.c.form key l z.bound z.m params body a)
+      (record { depth = z.m; bound = z.bound; shallow = z.shallow; lam_at = a.lam_at; env_as = ea })
+      (record { world = y.world; moves = omega (arith, y.moves, le) }))
 
   lambda_for : (z : S) (key : ℕ) (params : List Var) (body : ℕ) (k : Cont) → z.k ≡ k → z.owed + 5 ≤ z.has → LambdaFor x (ConvertsWithin x z.m) z.c.form z.bound z.held key params body k z.place → G z (closed (before x M marks escapes) key (record { params = params; form = z.c.form; body = body; env = z.c.env }) z.s)
   lambda_for z key params body (Continuation.Var j) e le h =
       lambda_gives z key params body h.0 z.sc le h.1 z.here.env_as (lam_words (behind x M marks escapes) h.0) refl
-        (step_at x M marks escapes z.place z.sc z.t (Step.Give (Continuation.Var j) (Argument.Proc h.0)) h.2
-          ∙ ap (λ k. give (behind x M marks escapes) z.sc k (ClosureV (length z.t.closures)) (closing (behind x M marks escapes) h.0 z.sc (counting 2 (at x M marks escapes facts n cl z)))) (sym e))
+      (step_at x M marks escapes z.place z.sc z.t (Step.Give (Continuation.Var j) (Argument.Proc h.0)) h.2
+      ∙ ap (λ k. give (behind x M marks escapes) z.sc k (ClosureV (length z.t.closures)) (closing (behind x M marks escapes) h.0 z.sc (counting 2 (at x M marks escapes facts n cl z)))) (sym e))
   lambda_for z key params body (Continuation.Lam v b) e le h =
       let l = h.0 in
       let new = h.1 in
@@ -155,10 +153,10 @@ module _ (x : Translation) (M : ℕ) (marks : Marking) (escapes : CpsMarking) (f
       let u : State = taking w2 (with_closures (counting 2 (at x M marks escapes facts n cl z)) (record { lam = l; scope = sd } ∷ [])) in
       let over = extends_bound z.held v.0 (Direct (ClosureV (length z.t.closures))) z.sc new.apart in
       lambda_gives z key params body l sd le h.2 (env_extends x z.bound z.kinds z.s.locations z.c.env z.sc sd (record { meant = λ y i. over.meant y (z.here.inside y i); ways = over.ways }) z.here.env_as) w2 (omega arith)
-        (step_at x M marks escapes z.place z.sc z.t (Step.Labels (v ∷ []) (l ∷ []) b) h.3
-          ∙ ap (λ bl. if bl then located v.0 (ClosureV (length z.t.closures)) z.sc (counting 2 (at x M marks escapes facts n cl z)) (λ inner t. going (At b inner) (taking w2 (with_closures t (record { lam = l; scope = inner } ∷ [])))) else going (At b sd) u) (facts.assigned v ∙ new.unassigned)
-          ∙ sym (given_plain x M marks escapes facts v b z.sc (ClosureV (length z.t.closures)) u new.unassigned)
-          ∙ ap (λ k. give (behind x M marks escapes) z.sc k (ClosureV (length z.t.closures)) u) (sym e))
+      (step_at x M marks escapes z.place z.sc z.t (Step.Labels (v ∷ []) (l ∷ []) b) h.3
+      ∙ ap (λ bl. if bl then located v.0 (ClosureV (length z.t.closures)) z.sc (counting 2 (at x M marks escapes facts n cl z)) (λ inner t. going (At b inner) (taking w2 (with_closures t (record { lam = l; scope = inner } ∷ [])))) else going (At b sd) u) (facts.assigned v ∙ new.unassigned)
+      ∙ sym (given_plain x M marks escapes facts v b z.sc (ClosureV (length z.t.closures)) u new.unassigned)
+      ∙ ap (λ k. give (behind x M marks escapes) z.sc k (ClosureV (length z.t.closures)) u) (sym e))
 
   pub lambda_runs : (z : S) (key : ℕ) (params : List Var) (body : ℕ) → z.owed + 5 ≤ z.has → LambdaFor x (ConvertsWithin x z.m) z.c.form z.bound z.held key params body z.k z.place → G z (closed (before x M marks escapes) key (record { params = params; form = z.c.form; body = body; env = z.c.env }) z.s)
   lambda_runs z key params body le h = lambda_for z key params body z.k refl le h

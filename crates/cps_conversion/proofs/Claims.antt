@@ -1,20 +1,19 @@
 -- What is claimed of each task, and what a single step does.
-use Rattle.std.proofs.Common.{◌≡◌, ℕ, zero, suc, ◌+◌, ◌*◌, ◌≤◌, ◌<◌, ◌⊎◌, ◌==◌, Bool, true, false, if◌then◌else◌, List, [], ◌∷◌, ◌++◌, length, sum_by, Option, Some, None, option_and_then, slice_get, refl, sym, ap, ◌∙◌, subst, arith, le_trans, inl, inr, ⊎_elim}
-use Rattle.std.proofs.lemmas.Bool.{true≢false, false≢true}
+use Rattle.std.proofs.Common.{◌≡◌, ℕ, suc, ◌+◌, ◌*◌, ◌≤◌, ◌<◌, Bool, true, false, if◌then◌else◌, List, [], ◌∷◌, length, Option, Some, None, option_and_then, slice_get, refl, sym, ap, ◌∙◌, subst, arith}
+use Rattle.std.proofs.lemmas.Bool.{true≢false}
 use Rattle.t_base.specs.declared.basics.Var.{Var}
 use Rattle.t_base.specs.declared.faults.Fault.{Fault}
-use Rattle.t_base.specs.declared.faults.Fault.TheVariants.{Unbound}
 use Rattle.program_runs.specs.Runs as runs
 use Rattle.t_prim.specs.Values.{Val, val_of, BuiltinV, OperationV}
 use Rattle.t_core.specs.declared.forms.Core.{Core}
 use Rattle.t_core.specs.declared.forms.Core.TheVariants as Node
-use Rattle.t_meaning.specs.Programs.{Marking, Program, marked, node_at}
+use Rattle.t_meaning.specs.Programs.{Marking, Program, marked}
 use Rattle.t_meaning.specs.Environment.{Env, location_of}
 use Rattle.t_meaning.specs.Costs.{is_assigned}
 use Rattle.t_meaning.specs.State.{Procedure, State as Made, with_live, entered}
-use Rattle.t_meaning.specs.Outcomes.{Outcome, Value, Escaping, Faulted, Out, Context, Task, Evaluate, Apply, Enter, Doing, or_unbound}
+use Rattle.t_meaning.specs.Outcomes.{Outcome, Value, Faulted, Out, Context, Evaluate, Apply, Enter, Doing, or_unbound}
 use Rattle.t_meaning.specs.Operations.{default_of}
-use Rattle.t_meaning.specs.Expressions.{evaluate, with_global}
+use Rattle.t_meaning.specs.Expressions.{evaluate}
 use Rattle.t_meaning.specs.Performing.{perform}
 use Rattle.cps_ir.specs.declared.args.Arg.{Arg}
 use Rattle.cps_ir.specs.declared.args.Arg.TheVariants as Argument
@@ -22,17 +21,17 @@ use Rattle.cps_ir.specs.declared.terms.Cont.{Cont}
 use Rattle.cps_ir.specs.declared.terms.Term.{Term}
 use Rattle.cps_ir.specs.Terms.{moves_of}
 use Rattle.cps_ir.specs.Parts.{is_assigned as cps_assigned}
-use Rattle.cps_ir.specs.States.{Marking as CpsMarking, Program as CpsProgram, marked as cps_marked, Meant, Direct, InLocation, Bound, Scope, Closure, Pending, Waiting, Back, Live, At, Calling, Entering, Ended, State, going, counting, with_waiting, taking, with_location, end_of}
-use Rattle.cps_ir.specs.Giving.{or_broken, or_unbound as cps_unbound, meant_by, value_of, with_arg, with_args, located, binding, Way, Out as Outwards, On, Lost, way, resumed, returned, given, give}
+use Rattle.cps_ir.specs.States.{Marking as CpsMarking, Program as CpsProgram, marked as cps_marked, Direct, Bound, Scope, Closure, Pending, Waiting, Back, Live, At, Calling, Entering, Ended, State, going, counting, with_waiting, end_of}
+use Rattle.cps_ir.specs.Giving.{or_broken, or_unbound as cps_unbound, meant_by, value_of, with_arg, with_args, located, Way, Out as Outwards, On, Lost, way, resumed, returned, given, give}
 use Rattle.cps_ir.specs.Calls.{default_of as cps_default_of, unwound}
 use Rattle.cps_ir.specs.Running.{performed, step}
 use Rattle.cps_ir.specs.Reaches.{is_in}
 use Rattle.cps_conversion.specs.Conversion.{Translation, Stands, ConvertsWithin, is_proc, ready_arg, IsBound}
 use Rattle.cps_conversion.specs.Law.{IsCarried}
 use Rattle.cps_conversion.proofs.Zips.{Zipped, Both}
-use Rattle.cps_conversion.proofs.Scopes.{Extends, extends_same, total, total_back, Waits}
-use Rattle.cps_conversion.proofs.Relate.{Kinds, Grown, EntryAs, VariableAs, EnvAs, ProcedureAs, live_of, Sync}
-use Rattle.cps_conversion.proofs.Paths.{waiting_of, Common, Gone, Runs, gone_none, runs_step}
+use Rattle.cps_conversion.proofs.Scopes.{Extends, total, total_back, Waits}
+use Rattle.cps_conversion.proofs.Relate.{Kinds, Grown, EntryAs, EnvAs, ProcedureAs, live_of, Sync}
+use Rattle.cps_conversion.proofs.Paths.{waiting_of, Common, Runs, gone_none, runs_step}
 
 -- ---- whatever is given, no more waits
 
@@ -184,9 +183,11 @@ module _ (x : Translation) (M : ℕ) (marks : Marking) (escapes : CpsMarking) wh
   -- one step by which a value is given
   pub gives_now : (m n : ℕ) (held : List ℕ) (k : Cont) (sc sd : Scope) (ws : List Waiting) (b : Base) (since : Kinds) (from : Made) (owed : ℕ) (kinds : Kinds) (c : State) (s r : Made) (v : Val) (u : State) → step behind c ≡ give behind sd k v u → waiting_of c ≤ s.deepest → s.deepest ≤ r.deepest → Extends held sc sd → total ws ≤ r.deepest → Grown x since from kinds r → u.waiting ≡ ws → Sync x M (owed + 3) kinds r u → Runs behind M (Away ws b) m n c s (Value r v) (Given held k sc ws since from owed)
   gives_now m n held k sc sd ws b since from owed kinds c s r v u at low deep over bound g e y =
-      runs_step behind M (Away ws b) m n c (give behind sd k v u) s (Value r v) (Given held k sc ws since from owed) at low
-        (give behind sd k v u, gone_none behind M (give behind sd k v u) s r (omega (arith, give_waits behind sd k v u, ap total e, bound)) deep,
-          record { scope = sd; state = u; kinds = kinds; lands = refl; waiting = e; over = over; grown = g; sync = y })
+      runs_step behind M (Away ws b) m n c (give behind sd k v u) s (Value r v) (Given held k sc ws since from owed) at low (
+        give behind sd k v u,
+        gone_none behind M (give behind sd k v u) s r (omega (arith, give_waits behind sd k v u, ap total e, bound)) deep,
+        record { scope = sd; state = u; kinds = kinds; lands = refl; waiting = e; over = over; grown = g; sync = y },
+      )
 
   -- ---- arguments
 

@@ -1,38 +1,33 @@
 -- The run of the program follows the meaning of the unit.
-use Rattle.std.specs.Prelude.{if◌then◌else◌, map}
+use Rattle.std.specs.Prelude.{if◌then◌else◌}
 use Rattle.std.specs.Option.{option_map_or}
-use Rattle.std.proofs.Common.{◌≡◌, ℕ, zero, suc, ◌+◌, ◌-◌, ◌*◌, ◌≤◌, ◌<◌, ◌⊎◌, Bool, true, false, List, [], ◌∷◌, length, Option, Some, None, slice_get, refl, sym, ap, ◌∙◌, subst, arith, le_trans, inl, inr, ⊎_elim, lt_of_mul-lt-mul_right, le_of_eq, le_of_lt}
+use Rattle.std.proofs.Common.{◌≡◌, ℕ, zero, suc, ◌+◌, ◌*◌, ◌≤◌, ◌⊎◌, Bool, true, false, List, [], ◌∷◌, Option, Some, None, slice_get, refl, sym, ap, ◌∙◌, subst, arith, inl, inr, ⊎_elim, lt_of_mul-lt-mul_right, le_of_lt}
 use Rattle.std.proofs.lemmas.Bool.{false≢true}
 use Rattle.t_base.specs.declared.shared_parts.Const.TheVariants as Constant
 use Rattle.t_base.specs.declared.shared_parts.Global1.{Global1}
 use Rattle.program_runs.specs.Runs as runs
 use Rattle.program_runs.specs.Runs.{End, Observation, Run, HasEnded, IsProper}
 use Rattle.program_runs.specs.Keeps.{Keeps}
-use Rattle.program_runs.specs.Follows.{Near, Follows, after}
+use Rattle.program_runs.specs.Follows.{Near, Follows}
 use Rattle.program_runs.proofs.Follow.{follows_keeps, below_by, steady_goes_on}
 use Rattle.t_prim.specs.Values.{Val, NilV, ClosureV, first_store, shown_of}
-use Rattle.t_core.specs.declared.forms.FormKind.{FormKind}
-use Rattle.t_core.specs.declared.forms.FormKind.TheVariants.{Define, Lset, Operation, Plain}
-use Rattle.t_core.specs.declared.forms.Form.{Form}
-use Rattle.t_core.specs.declared.forms.UnitCore.{UnitCore}
 use Rattle.t_meaning.specs.Programs.{Marking, all_escape}
-use Rattle.t_meaning.specs.State.{Procedure, State as Made}
+use Rattle.t_meaning.specs.State.{Procedure}
 use Rattle.t_meaning.specs.Outcomes.{Outcome, Value, Escaping, Faulted, Out}
-use Rattle.t_meaning.specs.Operations.{lambda_of, default_of}
-use Rattle.t_meaning.specs.Units.{start, run_forms, outcome, observed, meaning}
+use Rattle.t_meaning.specs.Operations.{default_of}
+use Rattle.t_meaning.specs.Units.{start, outcome, observed, meaning}
 use Rattle.cps_ir.specs.declared.args.Arg.TheVariants as Argument
-use Rattle.cps_ir.specs.declared.terms.Cps.{Cps}
 use Rattle.cps_ir.specs.Parts.{is_procedure}
 use Rattle.cps_ir.specs.Calls.{default_of as cps_default_of}
-use Rattle.cps_ir.specs.States.{Marking as CpsMarking, all_escape as cps_all_escape, Closure, Waiting, State, end_of, seen}
-use Rattle.cps_ir.specs.Running.{step, first_globals, start as cps_start, run}
+use Rattle.cps_ir.specs.States.{Marking as CpsMarking, all_escape as cps_all_escape, Closure, Waiting, end_of, seen}
+use Rattle.cps_ir.specs.Running.{first_globals, start as cps_start, run}
 use Rattle.cps_ir.proofs.Steady.{run_is_steady}
-use Rattle.cps_conversion.specs.Conversion.{Translation, is_proc, ConvertsWithin, RootAs, RootsAs, DefaultAs, IsTranslated, Converts}
+use Rattle.cps_conversion.specs.Conversion.{Translation, ConvertsWithin, RootAs, RootsAs, DefaultAs, IsTranslated}
 use Rattle.cps_conversion.specs.Law.{IsCarried, ConversionKeeps, ConversionKeepsMost}
 use Rattle.cps_conversion.proofs.Zips.{Zipped, Both}
-use Rattle.cps_conversion.proofs.Relate.{Kinds, LocationsAs, grown_same, ProcedureAs, ThingAs, Sync}
-use Rattle.cps_conversion.proofs.Paths.{waiting_of, Runs, runs_wider}
-use Rattle.cps_conversion.proofs.Claims.{before, behind, Facts, Base, Escaped, Away}
+use Rattle.cps_conversion.proofs.Relate.{Kinds, grown_same, ProcedureAs, Sync}
+use Rattle.cps_conversion.proofs.Paths.{Runs}
+use Rattle.cps_conversion.proofs.Claims.{before, behind, Facts, Base, Away}
 use Rattle.cps_conversion.proofs.Units.{Halted, forms_run, no_variable}
 
 -- ---- the start
@@ -79,17 +74,17 @@ module _ (x : Translation) (marks : Marking) (escapes : CpsMarking) (c : IsTrans
 
   begun : Sync x M 0 [] (start x.unit) (cps_start x.cps)
   begun = record {
-      world = record {
-        store_as = ap first_store c.shared;
-        globals_as = c.globals;
-        catches_as = refl;
-        live_as = refl;
-        locations_as = record { as_many = refl; within = λ l m e. nothing (Some m) e; same = λ l m e. nothing (Some m) e; apart = λ l j m e f. nothing (Some m) e };
-        closures_as = roots_as [] [] (start x.unit).closures (cps_start x.cps).closures c.closures;
-        objects_as = tt;
-      };
-      moves = omega arith;
-    }
+    world = record {
+      store_as = ap first_store c.shared;
+      globals_as = c.globals;
+      catches_as = refl;
+      live_as = refl;
+      locations_as = record { as_many = refl; within = λ l m e. nothing (Some m) e; same = λ l m e. nothing (Some m) e; apart = λ l j m e f. nothing (Some m) e };
+      closures_as = roots_as [] [] (start x.unit).closures (cps_start x.cps).closures c.closures;
+      objects_as = tt;
+    };
+    moves = omega arith;
+  }
     where
       nothing : {Z : Type 0} (o : Option ℕ) → None ≡ Some o → Z
       nothing o e = cc
@@ -124,21 +119,21 @@ module _ (x : Translation) (marks : Marking) (escapes : CpsMarking) (c : IsTrans
       nowhere_live : (rest : List Waiting) → None ≡ Some rest → ⊥
       nowhere_live rest e = cc
   found n (Faulted r e) h = record {
-      count = h.1.count;
-      near = subst (λ z. Near 5 5 (observed (Faulted r e)) (seen z)) (sym h.1.lands) (record { alike = record { end = ap end_of h.2; output = h.3.output }; moves = omega (arith, h.3.moves) });
-      far = inl (runs.Faulted e, refl);
-      heap = subst (λ z. (seen z).heap ≤ r.store.heap) (sym h.1.lands) h.3.heap;
-      waits = h.1.waits;
-      proper = tt;
-    }
+    count = h.1.count;
+    near = subst (λ z. Near 5 5 (observed (Faulted r e)) (seen z)) (sym h.1.lands) (record { alike = record { end = ap end_of h.2; output = h.3.output }; moves = omega (arith, h.3.moves) });
+    far = inl (runs.Faulted e, refl);
+    heap = subst (λ z. (seen z).heap ≤ r.store.heap) (sym h.1.lands) h.3.heap;
+    waits = h.1.waits;
+    proper = tt;
+  }
   found n (Out r) h = record {
-      count = h.1.count;
-      near = subst (λ z. Near 5 5 (observed (Out r)) (seen z)) (sym h.1.lands) (record { alike = record { end = h.2; output = h.3.output }; moves = omega (arith, h.3.moves) });
-      far = inr (omega (arith, h.4));
-      heap = subst (λ z. (seen z).heap ≤ r.store.heap) (sym h.1.lands) h.3.heap;
-      waits = h.1.waits;
-      proper = tt;
-    }
+    count = h.1.count;
+    near = subst (λ z. Near 5 5 (observed (Out r)) (seen z)) (sym h.1.lands) (record { alike = record { end = h.2; output = h.3.output }; moves = omega (arith, h.3.moves) });
+    far = inr (omega (arith, h.4));
+    heap = subst (λ z. (seen z).heap ≤ r.store.heap) (sym h.1.lands) h.3.heap;
+    waits = h.1.waits;
+    proper = tt;
+  }
 
   place : (n : ℕ) → Place n (outcome (before x M marks escapes) n)
   place n = found n (outcome (before x M marks escapes) n)

@@ -1,5 +1,5 @@
 -- How the run of the program goes on while the unit is evaluated.
-use Rattle.std.proofs.Common.{◌≡◌, ℕ, zero, suc, ◌+◌, ◌-◌, ◌*◌, ◌≤◌, ◌<◌, List, [], ◌∷◌, sum_by, Option, Some, None, refl, sym, ap, ◌∙◌, subst, arith, le_trans, ⊎_elim}
+use Rattle.std.proofs.Common.{◌≡◌, ℕ, zero, suc, ◌+◌, ◌-◌, ◌*◌, ◌≤◌, ◌<◌, sum_by, None, refl, sym, ap, ◌∙◌, subst, arith, le_trans, ⊎_elim}
 use Rattle.std.proofs.lemmas.Bool.{cases_lt}
 use Rattle.program_runs.specs.Runs as runs
 use Rattle.program_runs.specs.Follows.{after}
@@ -48,12 +48,12 @@ module _ (q : Program) (M : ℕ) where
         count = g.count + h.count;
         lands = joint h.count ∙ h.lands;
         waits = λ i le. ⊎_elim
-          (λ lt. le_trans (g.waits i (omega arith)) h.deep)
-          (λ ge.
+            (λ lt. le_trans (g.waits i (omega arith)) h.deep)
+            (λ ge.
             let e : i ≡ g.count + (i - g.count) = omega arith in
             let same : after (step q) i c ≡ after (step q) (i - g.count) d = ap (λ j. after (step q) j c) e ∙ joint (i - g.count) in
             subst (λ x. waiting_of x ≤ u.deepest) (sym same) (h.waits (i - g.count) (omega arith)))
-          (cases_lt i g.count);
+            (cases_lt i g.count);
         deep = le_trans g.deep h.deep;
       }
 

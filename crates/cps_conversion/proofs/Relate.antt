@@ -1,7 +1,6 @@
 -- What a state of the unit's evaluation and a state of the program have in common.
 use Rattle.std.proofs.Common.{◌≡◌, ℕ, zero, suc, ◌+◌, ◌*◌, ◌≤◌, ◌<◌, ◌⊎◌, ◌==◌, Bool, true, false, if◌then◌else◌, List, [], ◌∷◌, ◌++◌, length, Option, Some, None, slice_get, refl, sym, ap, ◌∙◌, subst, arith, inl, inr, ⊎_elim, append_assoc, append-nil, length-append}
 use Rattle.std.proofs.lemmas.Bool.{eqb-true}
-use Rattle.t_base.specs.declared.basics.Var.{Var}
 use Rattle.t_prim.specs.Values.{Val, Store}
 use Rattle.t_meaning.specs.Environment.{Env, location_of}
 use Rattle.t_meaning.specs.Costs.{is_assigned}
@@ -136,13 +135,13 @@ locations_cell kinds ls cells v h = record {
   as_many = length-append kinds (Some (length cells) ∷ []) ∙ (let e = h.as_many in let f = length-append ls (v ∷ []) in omega (arith, e, f));
   within = λ l m e. ⊎_elim (λ a. (let b = h.within l m a in let f = length-append cells (v ∷ []) in omega (arith, b, f))) (λ a. (let e2 : m ≡ length cells = cc (a.1) in let f = length-append cells (v ∷ []) in omega (arith, e2, f))) (last_cases kinds (Some (length cells)) l (Some m) e);
   same = λ l m e. ⊎_elim
-    (λ a. (let w = there cells m (h.within l m a) in get_append cells (v ∷ []) m w.0 w.1 ∙ sym (get_append ls (v ∷ []) l w.0 (sym (h.same l m a) ∙ w.1))))
-    (λ a. (let e2 : m ≡ length cells = cc (a.1) in ap (slice_get (cells ++ v ∷ [])) e2 ∙ get_seam cells [] v ∙ sym (ap (slice_get (ls ++ v ∷ [])) (a.0 ∙ h.as_many) ∙ get_seam ls [] v)))
-    (last_cases kinds (Some (length cells)) l (Some m) e);
+      (λ a. (let w = there cells m (h.within l m a) in get_append cells (v ∷ []) m w.0 w.1 ∙ sym (get_append ls (v ∷ []) l w.0 (sym (h.same l m a) ∙ w.1))))
+      (λ a. (let e2 : m ≡ length cells = cc (a.1) in ap (slice_get (cells ++ v ∷ [])) e2 ∙ get_seam cells [] v ∙ sym (ap (slice_get (ls ++ v ∷ [])) (a.0 ∙ h.as_many) ∙ get_seam ls [] v)))
+      (last_cases kinds (Some (length cells)) l (Some m) e);
   apart = λ l j m e f. ⊎_elim
-    (λ a. ⊎_elim (λ b. h.apart l j m a b) (λ b. (let e2 : m ≡ length cells = cc (b.1) in let w = h.within l m a in absurd (omega (arith, e2, w)))) (last_cases kinds (Some (length cells)) j (Some m) f))
-    (λ a. ⊎_elim (λ b. (let e2 : m ≡ length cells = cc (a.1) in let w = h.within j m b in absurd (omega (arith, e2, w)))) (λ b. a.0 ∙ sym b.0) (last_cases kinds (Some (length cells)) j (Some m) f))
-    (last_cases kinds (Some (length cells)) l (Some m) e);
+      (λ a. ⊎_elim (λ b. h.apart l j m a b) (λ b. (let e2 : m ≡ length cells = cc (b.1) in let w = h.within l m a in absurd (omega (arith, e2, w)))) (last_cases kinds (Some (length cells)) j (Some m) f))
+      (λ a. ⊎_elim (λ b. (let e2 : m ≡ length cells = cc (a.1) in let w = h.within j m b in absurd (omega (arith, e2, w)))) (λ b. a.0 ∙ sym b.0) (last_cases kinds (Some (length cells)) j (Some m) f))
+      (last_cases kinds (Some (length cells)) l (Some m) e);
 }
 
 pub env_meant : (x : Translation) (held : List ℕ) (kinds : Kinds) (ls : List Val) (env : Env) (sc sd : Scope) → ((y : ℕ) → is_in held y ≡ true → meant_by sd y ≡ meant_by sc y) → EnvAs x held kinds ls env sc → EnvAs x held kinds ls env sd

@@ -1,31 +1,27 @@
 -- SET of a variable.
-use Rattle.std.proofs.Common.{◌≡◌, ℕ, zero, suc, ◌+◌, ◌*◌, ◌≤◌, ◌<◌, ◌⊎◌, ◌==◌, Bool, true, false, ◌||◌, List, [], ◌∷◌, ◌++◌, length, Option, Some, None, option_and_then, slice_get, slice_set, refl, sym, ap, ◌∙◌, subst, arith, le_trans, inl, inr}
+use Rattle.std.proofs.Common.{◌≡◌, ℕ, zero, suc, ◌+◌, ◌≤◌, ◌<◌, ◌==◌, Bool, true, false, ◌||◌, List, [], ◌∷◌, length, Option, Some, None, option_and_then, slice_get, slice_set, refl, sym, ap, ◌∙◌, subst, arith}
 use Rattle.std.proofs.lemmas.Bool.{true≢false, eqb-true}
 use Rattle.std.specs.List.{list_any}
 use Rattle.t_base.specs.declared.basics.Var.{Var}
-use Rattle.t_base.specs.declared.faults.Fault.TheVariants.{Unbound}
 use Rattle.t_prim.specs.Values.{Val}
-use Rattle.t_core.specs.declared.forms.Core.{Core}
 use Rattle.t_core.specs.declared.forms.Core.TheVariants as Node
 use Rattle.t_core.specs.declared.forms.Form.{Form}
 use Rattle.t_core.specs.declared.forms.UnitCore.{UnitCore}
 use Rattle.t_meaning.specs.Programs.{Marking, node_at}
-use Rattle.t_meaning.specs.Environment.{location_of}
 use Rattle.t_meaning.specs.Costs.{is_assigned, assigns}
 use Rattle.t_meaning.specs.State.{State as Made, with_location_at as location_set}
 use Rattle.t_meaning.specs.Outcomes.{Outcome, Value, Doing, with_value, or_unbound, early}
 use Rattle.t_meaning.specs.Expressions.{with_location}
 use Rattle.cps_ir.specs.declared.args.Arg.{Arg}
 use Rattle.cps_ir.specs.declared.terms.Term.TheVariants as Step
-use Rattle.cps_ir.specs.States.{Marking as CpsMarking, Meant, InLocation, Scope, State, At, going, counting, with_location_at}
+use Rattle.cps_ir.specs.States.{Marking as CpsMarking, Scope, State, At, going, counting, with_location_at}
 use Rattle.cps_ir.specs.Giving.{or_unbound as cps_unbound, meant_by, location_of as place_of, give}
-use Rattle.cps_ir.specs.Running.{step}
 use Rattle.cps_ir.specs.Reaches.{is_in}
 use Rattle.cps_conversion.specs.Conversion.{Translation, Stands, ConvertsWithin, OverOne}
-use Rattle.cps_conversion.proofs.Zips.{Zipped, zipped_more}
+use Rattle.cps_conversion.proofs.Zips.{zipped_more}
 use Rattle.cps_conversion.proofs.Scopes.{same_number}
 use Rattle.cps_conversion.proofs.Relate.{Kinds, Grown, grown_same, get_within, LocationsAs, EntryAs, ProcedureAs, ThingAs, procedure_grown, thing_grown, Sync}
-use Rattle.cps_conversion.proofs.Claims.{before, behind, Facts, Claims, step_at, arg_means}
+use Rattle.cps_conversion.proofs.Claims.{behind, Facts, Claims, step_at, arg_means}
 use Rattle.cps_conversion.proofs.Operands.{Valued}
 use Rattle.cps_conversion.proofs.Spots.{Spot, Path, Done, Goal, part, gives_last}
 use Rattle.cps_conversion.proofs.Terms.{get_set_other, means_there, one_run}
@@ -105,7 +101,10 @@ module _ (x : Translation) (M : ℕ) (marks : Marking) (escapes : CpsMarking) wh
       let g = set_grown x kinds r l i v here in
       record {
         world = record {
-          store_as = w.store_as; globals_as = w.globals_as; catches_as = w.catches_as; live_as = w.live_as;
+          store_as = w.store_as;
+          globals_as = w.globals_as;
+          catches_as = w.catches_as;
+          live_as = w.live_as;
           locations_as = locations_set kinds r.locations u.locations l i v here w.locations_as;
           closures_as = zipped_more (ProcedureAs x M kinds r.locations) (ProcedureAs x M kinds q.locations) (procedure_grown x M kinds kinds r q g) r.closures u.closures w.closures_as;
           objects_as = zipped_more (ThingAs x M kinds r.locations) (ThingAs x M kinds q.locations) (thing_grown x M kinds kinds r q g) r.objects u.objects w.objects_as;
@@ -123,10 +122,10 @@ module _ (x : Translation) (M : ℕ) (marks : Marking) (escapes : CpsMarking) (f
   pub set_local_runs : (z : Spot x M marks escapes facts n cl) (v : Var) (key : ℕ) → is_assigned x.unit v ≡ true → z.owed + 5 ≤ z.has → is_in z.bound v.0 ≡ true → OverOne x (ConvertsWithin x z.m) z.c.form z.bound z.held key (λ a. Step.Set v a z.k) z.place → Goal x M marks escapes facts n cl z (with_value (early pt z.d z.c key z.s) (λ t w. with_location z.c v.0 t (λ l. Value (location_set t l w) w)))
   set_local_runs z v key as' le i h =
       one_run x M marks escapes facts n cl z key (λ a. Step.Set v a z.k) (λ t w. with_location z.c v.0 t (λ l. Value (location_set t l w) w)) h
-        (λ inner a place r w sd u now st k.
-          let e = k.here.env_as v.0 i in
-          subst (λ o. P z (going (At place sd) u) r (or_unbound o r (λ l. Value (location_set r l w) w))) (sym e.found)
-            (by_kind inner a place r w sd u now st k e.location (slice_get now e.location) refl e.entry))
+      (λ inner a place r w sd u now st k.
+      let e = k.here.env_as v.0 i in
+      subst (λ o. P z (going (At place sd) u) r (or_unbound o r (λ l. Value (location_set r l w) w))) (sym e.found)
+      (by_kind inner a place r w sd u now st k e.location (slice_get now e.location) refl e.entry))
     where
       by_kind : (inner : List ℕ) (a : Arg) (place : ℕ) (r : Made) (w : Val) (sd : Scope) (u : State) (now : Kinds) → Stands x place (Step.Set v a z.k) → (k : Valued x M marks escapes z.c z.bound z.held inner (a ∷ []) z.sc z.ws z.b (z.has + 3) z.kinds z.s r (w ∷ []) sd u now) → (l : ℕ) (o : Option (Option ℕ)) → slice_get now l ≡ o → EntryAs (is_assigned x.unit v) o (slice_get r.locations l) (meant_by sd v.0) → P z (going (At place sd) u) r (Value (location_set r l w) w)
       by_kind inner a place r w sd u now st k l None e h' = absurd h'
@@ -134,8 +133,8 @@ module _ (x : Translation) (M : ℕ) (marks : Marking) (escapes : CpsMarking) (f
       by_kind inner a place r w sd u now st k l (Some (Some j)) e h' =
           let u1 = counting 2 (going (At place sd) u) in
           gives_last x M marks escapes facts n cl z inner (a ∷ []) (z.has + 3) now r (w ∷ []) sd u place now (location_set r l w) w (with_location_at u1 j w) k
-            (step_at x M marks escapes place sd u (Step.Set v a z.k) st
-              ∙ arg_means x M marks escapes inner sd a w u1 (λ t y. cps_unbound (option_and_then place_of (meant_by sd v.0)) t (λ p. give (behind x M marks escapes) sd z.k y (with_location_at t p y))) (means_there x M marks escapes facts n cl z inner (a ∷ []) (z.has + 3) r (w ∷ []) sd u now k).0
-              ∙ ap (λ m. cps_unbound (option_and_then place_of m) u1 (λ p. give (behind x M marks escapes) sd z.k w (with_location_at u1 p w))) h'.1)
-            (omega arith) (set_grown x now r l j w e) k.here.ready.waiting
-            (set_sync x M marks escapes (z.owed + 3) now r u1 l j w e (record { world = k.here.ready.sync.world; moves = omega (arith, k.here.ready.sync.moves, le) }))
+          (step_at x M marks escapes place sd u (Step.Set v a z.k) st
+          ∙ arg_means x M marks escapes inner sd a w u1 (λ t y. cps_unbound (option_and_then place_of (meant_by sd v.0)) t (λ p. give (behind x M marks escapes) sd z.k y (with_location_at t p y))) (means_there x M marks escapes facts n cl z inner (a ∷ []) (z.has + 3) r (w ∷ []) sd u now k).0
+          ∙ ap (λ m. cps_unbound (option_and_then place_of m) u1 (λ p. give (behind x M marks escapes) sd z.k w (with_location_at u1 p w))) h'.1)
+          (omega arith) (set_grown x now r l j w e) k.here.ready.waiting
+          (set_sync x M marks escapes (z.owed + 3) now r u1 l j w e (record { world = k.here.ready.sync.world; moves = omega (arith, k.here.ready.sync.moves, le) }))

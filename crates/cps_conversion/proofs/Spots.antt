@@ -1,29 +1,26 @@
 -- A node that is evaluated, and where the program stands then.
-use Rattle.std.proofs.Common.{◌≡◌, ℕ, zero, suc, ◌+◌, ◌*◌, ◌≤◌, ◌<◌, ◌⊎◌, Bool, true, false, if◌then◌else◌, List, [], ◌∷◌, ◌++◌, length, Option, Some, None, slice_get, refl, sym, ap, ◌∙◌, subst, arith, le_trans, inl, inr, ⊎_elim}
+use Rattle.std.proofs.Common.{◌≡◌, ℕ, suc, ◌+◌, ◌*◌, ◌≤◌, ◌<◌, Bool, true, false, if◌then◌else◌, List, [], ◌∷◌, length, Option, Some, None, refl, sym, ap, ◌∙◌, subst, arith, inl, inr}
 use Rattle.t_base.specs.declared.basics.Var.{Var}
 use Rattle.t_base.specs.declared.faults.Fault.{Fault}
-use Rattle.program_runs.specs.Runs as runs
 use Rattle.t_prim.specs.Values.{Val}
 use Rattle.t_meaning.specs.Programs.{Marking}
 use Rattle.t_meaning.specs.Environment.{Env}
 use Rattle.t_meaning.specs.State.{State as Made}
-use Rattle.t_meaning.specs.Outcomes.{Outcome, Value, Faulted, Context, Evaluate, Doing, last, with_value, with_values}
+use Rattle.t_meaning.specs.Outcomes.{Outcome, Value, Faulted, Context, Doing, last, with_values}
 use Rattle.t_meaning.specs.Performing.{perform}
 use Rattle.cps_ir.specs.declared.args.Arg.{Arg}
 use Rattle.cps_ir.specs.declared.terms.Cont.{Cont}
 use Rattle.cps_ir.specs.declared.terms.Cont.TheVariants as Continuation
 use Rattle.cps_ir.specs.declared.terms.Term.{Term}
 use Rattle.cps_ir.specs.declared.terms.Term.TheVariants as Step
-use Rattle.cps_ir.specs.States.{Marking as CpsMarking, Joined, Scope, Pending, Waiting, Ended, At, State, going, counting, faulted}
-use Rattle.cps_ir.specs.Giving.{Way, Out as Outwards, On, Lost, way, way_of, given, give}
+use Rattle.cps_ir.specs.States.{Marking as CpsMarking, Joined, Scope, Waiting, At, State, going, counting, faulted}
+use Rattle.cps_ir.specs.Giving.{On, way, way_of, given, give}
 use Rattle.cps_ir.specs.Running.{step}
-use Rattle.cps_ir.specs.Reaches.{is_in}
-use Rattle.cps_conversion.specs.Conversion.{Translation, Stands, ConvertsWithin, Values, nowhere, OverAll, WithName}
-use Rattle.cps_conversion.proofs.Zips.{Zipped, zipped_length}
+use Rattle.cps_conversion.specs.Conversion.{Translation, Stands, ConvertsWithin, Values, nowhere, OverAll}
 use Rattle.cps_conversion.proofs.Scopes.{Extends, extends_same, extends_trans, same_number, total, Waits, waits_least, waits_more}
-use Rattle.cps_conversion.proofs.Relate.{Kinds, Grown, grown_same, grown_trans, env_meant, EnvAs, Sync}
+use Rattle.cps_conversion.proofs.Relate.{Kinds, Grown, grown_trans, env_meant, EnvAs, Sync}
 use Rattle.cps_conversion.proofs.Paths.{waiting_of, Common, Runs, runs_step, runs_wider}
-use Rattle.cps_conversion.proofs.Claims.{before, behind, Facts, Base, Ready, Here, Given, Away, Claims, step_at, fault_now, gives_now, common_of, ArgMeans}
+use Rattle.cps_conversion.proofs.Claims.{before, behind, Facts, Base, Here, Given, Away, Claims, step_at, fault_now, gives_now}
 use Rattle.cps_conversion.proofs.Operands.{Valued, values_run}
 
 pub values_length : (x : Translation) (m form : ℕ) (bound held inner : List ℕ) (tos : List (Option Var)) (keys : List ℕ) (args : List Arg) (t last : ℕ) → Values x (ConvertsWithin x m) form bound held tos keys args t last inner → length args ≡ length keys
@@ -103,7 +100,7 @@ module _ (x : Translation) (M : ℕ) (marks : Marking) (escapes : CpsMarking) (f
   fails z e u h f y =
       let a = stays z in
       runs_step (behind x M marks escapes) M (Away x M marks escapes z.ws z.b) z.m n (at z) (faulted e u) z.s (Faulted z.s e) (Done z) h (now_waits z)
-        (fault_now x M marks escapes (Away x M marks escapes z.ws z.b) z.m n e (faulted e u) z.s (Done z) (omega (arith, a, ap total f)) refl y)
+      (fault_now x M marks escapes (Away x M marks escapes z.ws z.b) z.m n e (faulted e u) z.s (Done z) (omega (arith, a, ap total f)) refl y)
 
   -- a value from a scope that binds more
   pub given_over : (held : List ℕ) (k : Cont) (sc sd : Scope) (ws : List Waiting) (since : Kinds) (from r : Made) (owed : ℕ) (v : Val) (e : State) → Extends held sc sd → Given x M marks escapes held k sd ws since from owed r v e → Given x M marks escapes held k sc ws since from owed r v e
@@ -125,9 +122,9 @@ module _ (x : Translation) (M : ℕ) (marks : Marking) (escapes : CpsMarking) (f
   last_run z key place sd has kinds r u conv over deeper g le h =
       let a = stays z in
       runs_wider (behind x M marks escapes) M (Away x M marks escapes z.ws z.b) z.m n (going (At place sd) u) r (last part z.d z.c key r) (Given x M marks escapes z.held z.k sd z.ws z.since z.from z.owed) (Done z)
-        (cl.evaluates z.m z.c key z.bound z.held z.k place (if z.c.tail then z.d else suc z.d) z.owed sd z.ws z.b z.since z.from kinds r u (grown_trans x z.since z.kinds kinds z.from z.s r z.grown g) conv (let sh = z.shallow in omega (arith, sh)) (waits_more (way sd z.k) z.ws z.d (if z.c.tail then z.d else suc z.d) (deeper_last z.c.tail z.d) (still_waits z sd over)) (omega (arith, a, deeper))
-          (record { ready = record { waiting = h.ready.waiting; least = z.least; grown = h.ready.grown; sync = record { world = h.ready.sync.world; moves = omega (arith, h.ready.sync.moves, le) } }; inside = h.inside; env_as = h.env_as }))
-        (λ q v e deeper2 gv. given_over z.held z.k z.sc sd z.ws z.since z.from q z.owed v e over gv)
+      (cl.evaluates z.m z.c key z.bound z.held z.k place (if z.c.tail then z.d else suc z.d) z.owed sd z.ws z.b z.since z.from kinds r u (grown_trans x z.since z.kinds kinds z.from z.s r z.grown g) conv (let sh = z.shallow in omega (arith, sh)) (waits_more (way sd z.k) z.ws z.d (if z.c.tail then z.d else suc z.d) (deeper_last z.c.tail z.d) (still_waits z sd over)) (omega (arith, a, deeper))
+      (record { ready = record { waiting = h.ready.waiting; least = z.least; grown = h.ready.grown; sync = record { world = h.ready.sync.world; moves = omega (arith, h.ready.sync.moves, le) } }; inside = h.inside; env_as = h.env_as }))
+      (λ q v e deeper2 gv. given_over z.held z.k z.sc sd z.ws z.since z.from q z.owed v e over gv)
 
   -- the values of operands, and then a term over them
   pub over_run : (z : Spot) (keys : List ℕ) (args : List Arg) (term : Term) (go : Made → List Val → Outcome) → OverAll x (ConvertsWithin x z.m) z.c.form z.bound z.held keys args term z.place → ((inner : List ℕ) (last : ℕ) (r : Made) (vs : List Val) (sd : Scope) (u : State) (now : Kinds) → Stands x last term → length args ≡ length keys → Valued x M marks escapes z.c z.bound z.held inner args z.sc z.ws z.b (z.has + 3 * length keys) z.kinds z.s r vs sd u now → Path z (going (At last sd) u) r (go r vs) (Done z)) → Goal z (with_values part z.d z.c keys z.s go)
@@ -135,7 +132,7 @@ module _ (x : Translation) (M : ℕ) (marks : Marking) (escapes : CpsMarking) (f
       let a = low z in
       let e = stays z in
       values_run x M marks escapes facts n cl z.m z.c z.bound z.held o.inner (nowhere keys) keys args z.place o.last z.d z.has z.sc z.ws z.b z.kinds z.s z.t go (Done z) o.values (let sh = z.shallow in omega (arith, sh)) a e z.here
-        (λ r vs sd u now k. cont o.inner o.last r vs sd u now o.stands (values_length x z.m z.c.form z.bound z.held o.inner (nowhere keys) keys args z.place o.last o.values) k)
+      (λ r vs sd u now k. cont o.inner o.last r vs sd u now o.stands (values_length x z.m z.c.form z.bound z.held o.inner (nowhere keys) keys args z.place o.last o.values) k)
 
   -- the step of a term over values, where it gives a value
   pub gives_last : (z : Spot) (inner : List ℕ) (args : List Arg) (has : ℕ) (now : Kinds) (r : Made) (vs : List Val) (sd : Scope) (u : State) (place : ℕ) (later : Kinds) (q : Made) (v : Val) (e : State) → Valued x M marks escapes z.c z.bound z.held inner args z.sc z.ws z.b has z.kinds z.s r vs sd u now → step (behind x M marks escapes) (going (At place sd) u) ≡ give (behind x M marks escapes) sd z.k v e → r.deepest ≤ q.deepest → Grown x now r later q → e.waiting ≡ z.ws → Sync x M (z.owed + 3) later q e → Path z (going (At place sd) u) r (Value q v) (Done z)
@@ -149,7 +146,7 @@ module _ (x : Translation) (M : ℕ) (marks : Marking) (escapes : CpsMarking) (f
       let a = stays z in
       let dp = k.deep in
       runs_step (behind x M marks escapes) M (Away x M marks escapes z.ws z.b) z.m n (going (At place sd) u) (faulted fault e) r (Faulted r fault) (Done z) at' (omega (arith, a, dp, ap total k.here.ready.waiting))
-        (fault_now x M marks escapes (Away x M marks escapes z.ws z.b) z.m n fault (faulted fault e) r (Done z) (omega (arith, a, dp, ap total f)) refl y)
+      (fault_now x M marks escapes (Away x M marks escapes z.ws z.b) z.m n fault (faulted fault e) r (Done z) (omega (arith, a, dp, ap total f)) refl y)
 
   -- ---- a continuation that has a name
 
@@ -165,8 +162,23 @@ module _ (x : Translation) (M : ℕ) (marks : Marking) (escapes : CpsMarking) (f
   -- the same node, where its continuation has a name
   unfoldable pub named : (z : Spot) (p j : Var) (b rest : ℕ) → z.k ≡ Continuation.Lam p b → z.owed + 5 ≤ z.has → Spot
   named z p j b rest e le = record {
-    m = z.m; c = z.c; bound = z.bound; held = z.held; k = Continuation.Var j; place = rest; d = z.d; has = z.owed + 4; owed = z.owed;
-    sc = Joined j.0 p.0 b ∷ z.sc; ws = z.ws; b = z.b; since = z.since; from = z.from; kinds = z.kinds; s = z.s; t = counting 1 (at z);
+    m = z.m;
+    c = z.c;
+    bound = z.bound;
+    held = z.held;
+    k = Continuation.Var j;
+    place = rest;
+    d = z.d;
+    has = z.owed + 4;
+    owed = z.owed;
+    sc = Joined j.0 p.0 b ∷ z.sc;
+    ws = z.ws;
+    b = z.b;
+    since = z.since;
+    from = z.from;
+    kinds = z.kinds;
+    s = z.s;
+    t = counting 1 (at z);
     shallow = z.shallow;
     waits = waits_named z.k p j b z.sc z.ws z.d e z.waits;
     deep = z.deep;
@@ -184,14 +196,14 @@ module _ (x : Translation) (M : ℕ) (marks : Marking) (escapes : CpsMarking) (f
   joined z p j b rest e le o h g =
       let y = named z p j b rest e le in
       runs_step (behind x M marks escapes) M (Away x M marks escapes z.ws z.b) z.m n (at z) (at y) z.s o (Done z) (step_at x M marks escapes z.place z.sc z.t (Step.Join j p b rest) h) (now_waits z)
-        (runs_wider (behind x M marks escapes) M (Away x M marks escapes z.ws z.b) z.m n (at y) z.s o (Done y) (Done z) g
-          (λ r v q deeper gv. record {
-            scope = z.sc;
-            state = gv.state;
-            kinds = gv.kinds;
-            lands = gv.lands ∙ ap (λ w. given (behind x M marks escapes) w v gv.state) (gv.over.ways j.0 ∙ way_here j.0 p.0 b z.sc) ∙ ap (λ k. give (behind x M marks escapes) z.sc k v gv.state) (sym e);
-            waiting = gv.waiting;
-            over = extends_same z.held z.sc;
-            grown = gv.grown;
-            sync = gv.sync;
-          }))
+      (runs_wider (behind x M marks escapes) M (Away x M marks escapes z.ws z.b) z.m n (at y) z.s o (Done y) (Done z) g
+      (λ r v q deeper gv. record {
+        scope = z.sc;
+        state = gv.state;
+        kinds = gv.kinds;
+        lands = gv.lands ∙ ap (λ w. given (behind x M marks escapes) w v gv.state) (gv.over.ways j.0 ∙ way_here j.0 p.0 b z.sc) ∙ ap (λ k. give (behind x M marks escapes) z.sc k v gv.state) (sym e);
+        waiting = gv.waiting;
+        over = extends_same z.held z.sc;
+        grown = gv.grown;
+        sync = gv.sync;
+      }))
