@@ -2,6 +2,8 @@
 //! meaning of the unit then (`specs/Law.antt`).
 #![tactic(auto)]
 
+pub mod examples;
+
 ghost use Rattle.cps_conversion.specs.Law.{ConversionKeeps, ConversionKeepsMost};
 
 /// A program that stands for a unit keeps its meaning, with at most 5 moves for each unit of work and 5 more: the same ends by value or
