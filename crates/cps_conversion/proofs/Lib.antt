@@ -17,3 +17,4 @@ pub mod Follow
 pub mod Sets
 pub mod Catches
 pub mod Labels
+pub mod Deeper
