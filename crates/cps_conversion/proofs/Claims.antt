@@ -27,7 +27,6 @@ use Rattle.cps_ir.specs.Calls.{default_of as cps_default_of, unwound}
 use Rattle.cps_ir.specs.Running.{performed, step}
 use Rattle.cps_ir.specs.Reaches.{is_in}
 use Rattle.cps_conversion.specs.Conversion.{Translation, Stands, ConvertsWithin, is_proc, ready_arg, IsBound}
-use Rattle.cps_conversion.specs.Law.{IsCarried}
 use Rattle.cps_conversion.proofs.Zips.{Zipped, Both}
 use Rattle.cps_conversion.proofs.Scopes.{Extends, total, total_back, Waits}
 use Rattle.cps_conversion.proofs.Relate.{Kinds, Grown, EntryAs, EnvAs, ProcedureAs, live_of, Sync}
@@ -64,6 +63,10 @@ module _ (q : CpsProgram) where
 
 -- ---- claims
 
+-- the procedure that stands for a LAMBDA counts as escaping exactly where the LAMBDA does
+abbrev pub IsAlike : List (ℕ × ℕ) → Marking → CpsMarking → Type 0
+IsAlike origins marks escapes = (l form node : ℕ) → slice_get origins l ≡ Some (form, node) → escapes l ≡ marks form node
+
 module _ (x : Translation) (M : ℕ) (marks : Marking) (escapes : CpsMarking) where
   abbrev pub before : Program
   before = marked x.unit marks
@@ -74,7 +77,7 @@ module _ (x : Translation) (M : ℕ) (marks : Marking) (escapes : CpsMarking) wh
   pub record Facts : Type 0 where
     pub shared : x.cps.shared ≡ x.unit.shared
     pub assigned : (v : Var) → cps_assigned x.cps v.0 ≡ is_assigned x.unit v
-    pub carried : IsCarried x.origins marks escapes
+    pub carried : IsAlike x.origins marks escapes
     pub some : 0 < M
     pub defaults : (o : ℕ) (kinds : Kinds) (ls : List Val) → Both (ProcedureAs x M kinds ls) (default_of x.unit o) (cps_default_of x.cps o)
 

@@ -1,13 +1,14 @@
 -- The run of the program follows the meaning of the unit.
-use Rattle.std.specs.Prelude.{if◌then◌else◌}
+use Rattle.std.specs.Prelude.{IsTrue, if◌then◌else◌}
 use Rattle.std.specs.Option.{option_map_or}
-use Rattle.std.proofs.Common.{◌≡◌, ℕ, zero, suc, ◌+◌, ◌*◌, ◌≤◌, ◌⊎◌, Bool, true, false, List, [], ◌∷◌, Option, Some, None, slice_get, refl, sym, ap, ◌∙◌, subst, arith, inl, inr, ⊎_elim, lt_of_mul-lt-mul_right, le_of_lt}
+use Rattle.std.proofs.Common.{◌≡◌, ℕ, zero, suc, ◌+◌, ◌*◌, ◌≤◌, ◌⊎◌, Bool, true, false, List, [], ◌∷◌, Option, Some, None, slice_get, refl, sym, ap, ◌∙◌, subst, arith, le_trans, inl, inr, ⊎_elim, lt_of_mul-lt-mul_right, le_of_lt}
 use Rattle.std.proofs.lemmas.Bool.{false≢true}
 use Rattle.t_base.specs.declared.shared_parts.Const.TheVariants as Constant
 use Rattle.t_base.specs.declared.shared_parts.Global1.{Global1}
 use Rattle.program_runs.specs.Runs as runs
-use Rattle.program_runs.specs.Runs.{End, Observation, Run, HasEnded, IsProper}
+use Rattle.program_runs.specs.Runs.{IsPrefix, End, Observation, Run, HasEnded, IsProper}
 use Rattle.program_runs.specs.Keeps.{Keeps}
+use Rattle.program_runs.specs.MoreHeap.{IsAtMost}
 use Rattle.program_runs.specs.Follows.{Near, Follows}
 use Rattle.program_runs.proofs.Follow.{follows_keeps, below_by, steady_goes_on}
 use Rattle.t_prim.specs.Values.{Val, NilV, ClosureV, first_store, shown_of}
@@ -23,11 +24,13 @@ use Rattle.cps_ir.specs.States.{Marking as CpsMarking, all_escape as cps_all_esc
 use Rattle.cps_ir.specs.Running.{first_globals, start as cps_start, run}
 use Rattle.cps_ir.proofs.Steady.{run_is_steady}
 use Rattle.cps_conversion.specs.Conversion.{Translation, ConvertsWithin, RootAs, RootsAs, DefaultAs, IsTranslated}
+use Rattle.cps_ir.specs.RunLaws.{MarksMore}
+use Rattle.cps_ir.proofs.Dearer.{marks_change_heap_alone}
 use Rattle.cps_conversion.specs.Law.{IsCarried, ConversionKeeps, ConversionKeepsMost}
 use Rattle.cps_conversion.proofs.Zips.{Zipped, Both}
 use Rattle.cps_conversion.proofs.Relate.{Kinds, grown_same, ProcedureAs, Sync}
 use Rattle.cps_conversion.proofs.Paths.{Runs}
-use Rattle.cps_conversion.proofs.Claims.{before, behind, Facts, Base, Away}
+use Rattle.cps_conversion.proofs.Claims.{IsAlike, before, behind, Facts, Base, Away}
 use Rattle.cps_conversion.proofs.Units.{Halted, forms_run, no_variable}
 
 -- ---- the start
@@ -42,7 +45,7 @@ procs_begin (a ∷ globals) next (suc g) h = by_test (λ i. procs_begin globals 
     by_test f true = f (suc next)
     by_test f false = f next
 
-module _ (x : Translation) (marks : Marking) (escapes : CpsMarking) (c : IsTranslated x) (carried : IsCarried x.origins marks escapes) where
+module _ (x : Translation) (marks : Marking) (escapes : CpsMarking) (c : IsTranslated x) (carried : IsAlike x.origins marks escapes) where
   abbrev M : ℕ
   M = suc c.depth
 
@@ -156,8 +159,40 @@ module _ (x : Translation) (marks : Marking) (escapes : CpsMarking) (c : IsTrans
   pub keeps : Keeps 5 5 (meaning x.unit marks) (run escapes x.cps)
   keeps = follows_keeps 5 5 (meaning x.unit marks) (run escapes x.cps) (steady_goes_on (run escapes x.cps) (run_is_steady escapes x.cps)) follows IsProper (λ n e h. subst ProperIf h (place n).proper)
 
+-- ---- with fewer marks
+
+-- the same but for fewer words of heap
+less_keeps : (f c : ℕ) (a b d : Run) → ((n : ℕ) → IsAtMost (d n) (b n)) → Keeps f c a b → Keeps f c a d
+less_keeps f c a b d h k = record {
+  ends_only = λ n e q. (let w = h n in let x = k.ends_only n e (w.end ∙ q) in (x.0, (x.1.0, record { ended = x.1.1.ended; output = x.1.1.output ∙ w.output })));
+  ends = λ m e q. (let x = k.ends m e q in let w = h x.0 in (x.0, sym w.end ∙ x.1, sym w.output ∙ x.2, (let y = x.3 in let z = w.moves in omega (arith, y, z))));
+  shows = λ m. (let x = k.shows m in let w = h x.0 in (x.0, subst (λ o. IsPrefix (a m).output o) w.output x.1, (let y = x.2 in let z = w.moves in omega (arith, y, z))));
+  shows_only = λ n. (let x = k.shows_only n in (x.0, subst (λ o. IsPrefix o (a x.0).output) (h n).output x.1));
+  heap = λ n. (let x = k.heap n in (x.0, le_trans (h n).heap x.1));
+  waiting = λ n. (let x = k.waiting n in (x.0, (let w = (h n).waiting in let y = x.1 in omega (arith, w, y))));
+}
+
+-- the marking that is carried along; a procedure that stands for no LAMBDA counts as escaping
+carried_marks : List (ℕ × ℕ) → Marking → CpsMarking
+carried_marks origins marks l = option_map_or (λ o. marks o.0 o.1) (slice_get origins l) true
+
+carried_alike : (origins : List (ℕ × ℕ)) (marks : Marking) → IsAlike origins marks (carried_marks origins marks)
+unfolding carried_marks
+carried_alike origins marks l form node e = ap (λ o. option_map_or (λ a. marks a.0 a.1) o true) e
+
+carried_more : (origins : List (ℕ × ℕ)) (marks : Marking) (escapes : CpsMarking) → IsCarried origins marks escapes → MarksMore escapes (carried_marks origins marks)
+unfolding carried_marks
+carried_more origins marks escapes h l t = by_origin (slice_get origins l) refl
+  where
+    by_origin : (o : Option (ℕ × ℕ)) → slice_get origins l ≡ o → IsTrue (option_map_or (λ a. marks a.0 a.1) o true)
+    by_origin None e = refl
+    by_origin (Some a) e = h l a.0 a.1 e t
+
 pub conversion_keeps : ConversionKeeps
-conversion_keeps unit cps marks escapes c carried = keeps (record { unit = unit; cps = cps; origins = c.origins }) marks escapes c.translated carried
+conversion_keeps unit cps marks escapes c carried =
+    let all = carried_marks c.origins marks in
+    less_keeps 5 5 (meaning unit marks) (run all cps) (run escapes cps) (marks_change_heap_alone cps escapes all (carried_more c.origins marks escapes carried))
+      (keeps (record { unit = unit; cps = cps; origins = c.origins }) marks all c.translated (carried_alike c.origins marks))
 
 pub conversion_keeps_most : ConversionKeepsMost
-conversion_keeps_most unit cps c = conversion_keeps unit cps all_escape cps_all_escape c (λ l form node e. refl)
+conversion_keeps_most unit cps c = conversion_keeps unit cps all_escape cps_all_escape c (λ l form node e t. t)

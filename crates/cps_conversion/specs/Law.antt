@@ -1,5 +1,5 @@
 -- What a conversion keeps.
-use Rattle.std.specs.Prelude.{◌≡◌, ℕ, List, Some, slice_get}
+use Rattle.std.specs.Prelude.{◌≡◌, ℕ, IsTrue, List, Some, slice_get}
 use Rattle.program_runs.specs.Keeps.{Keeps}
 use Rattle.t_core.specs.declared.forms.UnitCore.{UnitCore}
 use Rattle.t_meaning.specs.Programs.{Marking}
@@ -9,11 +9,11 @@ use Rattle.cps_ir.specs.States.{Marking as CpsMarking}
 use Rattle.cps_ir.specs.Running.{run, run_at_most}
 use Rattle.cps_conversion.specs.Conversion.{Converts}
 
--- the procedure that stands for a LAMBDA counts as escaping where the LAMBDA does
+-- the procedure that stands for a LAMBDA counts as escaping only where the LAMBDA does
 abbrev pub IsCarried : List (ℕ × ℕ) → Marking → CpsMarking → Type 0
-IsCarried origins marks escapes = (l form node : ℕ) → slice_get origins l ≡ Some (form, node) → escapes l ≡ marks form node
+IsCarried origins marks escapes = (l form node : ℕ) → slice_get origins l ≡ Some (form, node) → IsTrue (escapes l) → IsTrue (marks form node)
 
--- the meaning with any marking is kept by the run with the marking carried along
+-- the meaning with any marking is kept by the run with a marking that marks no more
 abbrev pub ConversionKeeps : Type 0
 ConversionKeeps = (unit : UnitCore) (cps : Cps) (marks : Marking) (escapes : CpsMarking) (c : Converts unit cps) → IsCarried c.origins marks escapes → Keeps 5 5 (meaning unit marks) (run escapes cps)
 
