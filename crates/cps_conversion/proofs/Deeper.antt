@@ -1,5 +1,5 @@
 -- What is converted where nodes nest less deep than a bound is converted with every greater bound.
-use Rattle.std.proofs.Common.{◌≡◌, ℕ, zero, suc, ◌≤◌, ◌⊎◌, List, [], ◌∷◌, Option, Some, None, arith, inl, inr}
+use Rattle.std.proofs.Common.{ℕ, zero, suc, ◌≤◌, List, [], ◌∷◌, Option, Some, None, arith, inl, inr}
 use Rattle.t_base.specs.declared.basics.Var.{Var}
 use Rattle.t_core.specs.declared.forms.Core.{Core}
 use Rattle.t_core.specs.declared.forms.Core.TheVariants as Node
@@ -15,7 +15,7 @@ use Rattle.cps_ir.specs.declared.terms.Cont.{Cont}
 use Rattle.cps_ir.specs.declared.terms.Cont.TheVariants as Continuation
 use Rattle.cps_ir.specs.declared.terms.Term.{Term}
 use Rattle.cps_ir.specs.States.{Closure}
-use Rattle.cps_conversion.specs.Conversion.{Translation, Converting, Values, OverAll, OverOne, LamAt, LambdaAt, WithName, LambdaFor, IfAs, BlockAs, LetAs, LambdaNode, LambdaNodes, LabelsAs, CatchAs, MethodsAs, ObjectAs, CallAs, PrimAs, ConvertsNode, ConvertsWithin, PlainAs, InitAs, FormAs, FormsAs, RootAs, RootsAs, DefaultAs}
+use Rattle.cps_conversion.specs.Conversion.{Translation, Converting, Values, OverAll, OverOne, LamAt, LambdaAt, WithName, LambdaFor, IfAs, BlockAs, LetAs, LambdaNode, LambdaNodes, LabelsAs, CatchAs, MethodsAs, ConvertsNode, ConvertsWithin, FormAs, FormsAs, RootsAs}
 
 module _ (x : Translation) (conv more : Converting) (w : (form : ℕ) (bound held : List ℕ) (key : ℕ) (k : Cont) (t : ℕ) → conv form bound held key k t → more form bound held key k t) where
   pub values_more : (form : ℕ) (bound held inner : List ℕ) (tos : List (Option Var)) (keys : List ℕ) (args : List Arg) (t last : ℕ) → Values x conv form bound held tos keys args t last inner → Values x more form bound held tos keys args t last inner
@@ -59,9 +59,17 @@ module _ (x : Translation) (conv more : Converting) (w : (form : ℕ) (bound hel
 
   catch_more : (form : ℕ) (bound held : List ℕ) (v : Var) (body : ℕ) (k : Cont) (t : ℕ) → CatchAs x conv form bound held v body k t → CatchAs x more form bound held v body k t
   catch_more form bound held v body k t h = record {
-    name = h.name; inner = h.inner; start = h.start; value = h.value; end = h.end; stands = h.stands; name_new = h.name_new; assigned = h.assigned;
+    name = h.name;
+    inner = h.inner;
+    start = h.start;
+    value = h.value;
+    end = h.end;
+    stands = h.stands;
+    name_new = h.name_new;
+    assigned = h.assigned;
     body_as = w form (v.0 ∷ bound) (v.0 ∷ held) body (Continuation.Lam h.value h.end) h.start h.body_as;
-    value_new = h.value_new; ends = h.ends;
+    value_new = h.value_new;
+    ends = h.ends;
   }
 
   with_name_more : (k : Cont) (t : ℕ) (a b : Cont → ℕ → Type 0) → ((k : Cont) (t : ℕ) → a k t → b k t) → WithName x k t a → WithName x k t b
@@ -108,7 +116,10 @@ module _ (x : Translation) (conv more : Converting) (w : (form : ℕ) (bound hel
 
   let_more : (form : ℕ) (bound held : List ℕ) (vars : List Var) (keys : List ℕ) (body : ℕ) (k : Cont) (t : ℕ) → LetAs x conv form bound held vars keys body k t → LetAs x more form bound held vars keys body k t
   let_more form bound held vars keys body k t h = record {
-    args = h.args; inner = h.inner; behind = h.behind; start = h.start;
+    args = h.args;
+    inner = h.inner;
+    behind = h.behind;
+    start = h.start;
     values = values_more form bound held h.inner _ keys h.args t h.behind h.values;
     assigned = h.assigned;
     body_as = w form _ _ body k h.start h.body_as;
@@ -116,7 +127,16 @@ module _ (x : Translation) (conv more : Converting) (w : (form : ℕ) (bound hel
 
   labels_more : (form : ℕ) (bound held : List ℕ) (vars : List Var) (keys : List ℕ) (body : ℕ) (k : Cont) (t : ℕ) → LabelsAs x conv form bound held vars keys body k t → LabelsAs x more form bound held vars keys body k t
   labels_more form bound held vars keys body k t h = record {
-    names = h.names; lams = h.lams; at = h.at; behind = h.behind; start = h.start; as_many = h.as_many; unset = h.unset; names_for = h.names_for; names_new = h.names_new; stands = h.stands;
+    names = h.names;
+    lams = h.lams;
+    at = h.at;
+    behind = h.behind;
+    start = h.start;
+    as_many = h.as_many;
+    unset = h.unset;
+    names_for = h.names_for;
+    names_new = h.names_new;
+    stands = h.stands;
     lambdas = nodes_more form _ keys h.lams h.lambdas;
     sets = h.sets;
     body_as = w form _ _ body k h.start h.body_as;

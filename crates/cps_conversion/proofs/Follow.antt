@@ -192,7 +192,7 @@ pub conversion_keeps : ConversionKeeps
 conversion_keeps unit cps marks escapes c carried =
     let all = carried_marks c.origins marks in
     less_keeps 5 5 (meaning unit marks) (run all cps) (run escapes cps) (marks_change_heap_alone cps escapes all (carried_more c.origins marks escapes carried))
-      (keeps (record { unit = unit; cps = cps; origins = c.origins }) marks all c.translated (carried_alike c.origins marks))
+    (keeps (record { unit = unit; cps = cps; origins = c.origins }) marks all c.translated (carried_alike c.origins marks))
 
 pub conversion_keeps_most : ConversionKeepsMost
 conversion_keeps_most unit cps c = conversion_keeps unit cps all_escape cps_all_escape c (λ l form node e t. t)

@@ -1,7 +1,6 @@
 -- Small units, each with a program that stands for it.
 use Rattle.std.specs.Prelude.{ℕ, true, false, List, [], ◌∷◌, pos, refl}
 use Rattle.std.specs.Global.{Global}
-use Rattle.t_base.specs.declared.basics.Var.{Var}
 use Rattle.t_base.specs.declared.builtins.Builtin.TheVariants.{Add}
 use Rattle.t_base.specs.declared.shared_parts.Const.TheVariants as Constant
 use Rattle.t_base.specs.declared.shared_parts.GlobalKind.TheVariants.{Proc}
@@ -12,7 +11,6 @@ use Rattle.t_core.specs.declared.forms.FormKind.TheVariants.{Define, Plain}
 use Rattle.t_core.specs.declared.forms.Form.{Form}
 use Rattle.t_core.specs.declared.forms.UnitCore.{UnitCore}
 use Rattle.cps_ir.specs.declared.terms.Cps.{Cps}
-use Rattle.cps_ir.specs.Examples.{sum, assignment, labels_see, catch_over_two}
 use Rattle.cps_ir.specs.Writing.{IsShort, vec_of, var, global, bare, plain}
 use Rattle.cps_conversion.specs.Conversion.{Converts}
 
