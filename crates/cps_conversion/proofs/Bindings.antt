@@ -43,8 +43,8 @@ module _ (x : Translation) (M : ℕ) (marks : Marking) (escapes : CpsMarking) (f
   one_words v vars b e = sum_by-cons (λ y. if is_assigned x.unit y then 2 else 0) v vars ∙ ap (λ c. (if c then 2 else 0) + binding_words x.unit vars) e
 
   -- with another list of the same locations
-  env_at : (bnd : List ℕ) (now : Kinds) (ls : List Val) (w : Val) (vs : List Val) (vars : List Var) (env : Env) (l : ℕ) (se : Scope) → EnvAs x bnd now ((ls ++ w ∷ []) ++ vs) (extended vars (length (ls ++ w ∷ [])) env) se → EnvAs x bnd now (ls ++ w ∷ vs) (extended vars (suc (length ls)) env) se
-  env_at bnd now ls w vs vars env l se h =
+  env_at : (bnd : List ℕ) (now : Kinds) (ls : List Val) (w : Val) (vs : List Val) (vars : List Var) (env : Env) (se : Scope) → EnvAs x bnd now ((ls ++ w ∷ []) ++ vs) (extended vars (length (ls ++ w ∷ [])) env) se → EnvAs x bnd now (ls ++ w ∷ vs) (extended vars (suc (length ls)) env) se
+  env_at bnd now ls w vs vars env se h =
       let e : length (ls ++ w ∷ []) ≡ suc (length ls) = length-append ls (w ∷ []) ∙ (let a : length ls + 1 ≡ suc (length ls) = omega arith in a) in
       subst (λ i. EnvAs x bnd now (ls ++ w ∷ vs) (extended vars i env) se) e
       (subst (λ a. EnvAs x bnd now a (extended vars (length (ls ++ w ∷ [])) env) se) (append_assoc ls (w ∷ []) vs) h)
@@ -85,7 +85,7 @@ module _ (x : Translation) (M : ℕ) (marks : Marking) (escapes : CpsMarking) (f
           rest = None ∷ k.rest;
           more = k.more ∙ append_assoc kinds (None ∷ []) k.rest;
           locations_as = subst (λ l. LocationsAs now l t.locations) (append_assoc ls (w ∷ []) vs) k.locations_as;
-          env_as = env_at (adding vars (v.0 ∷ bnd)) now ls w vs vars ((v.0, length ls) ∷ env) 0 se k.env_as;
+          env_as = env_at (adding vars (v.0 ∷ bnd)) now ls w vs vars ((v.0, length ls) ∷ env) se k.env_as;
           store_as = k.store_as ∙ ap {A = ℕ} (λ i. record u.store { heap = u.store.heap + i }) (sym (one_words v vars false h.0 ∙ (let e : 0 + binding_words x.unit vars ≡ binding_words x.unit vars = omega arith in e)));
           moves_as = (let f = one_words v vars false h.0 in omega (arith, k.moves_as, f));
           waiting_as = k.waiting_as;
@@ -123,7 +123,7 @@ module _ (x : Translation) (M : ℕ) (marks : Marking) (escapes : CpsMarking) (f
           rest = Some i ∷ k.rest;
           more = k.more ∙ append_assoc kinds (Some i ∷ []) k.rest;
           locations_as = subst (λ l. LocationsAs now l t.locations) (append_assoc ls (w ∷ []) vs) k.locations_as;
-          env_as = env_at (adding vars (v.0 ∷ bnd)) now ls w vs vars ((v.0, length ls) ∷ env) 0 se k.env_as;
+          env_as = env_at (adding vars (v.0 ∷ bnd)) now ls w vs vars ((v.0, length ls) ∷ env) se k.env_as;
           store_as = k.store_as ∙ ap {A = ℕ} (λ j. record u.store { heap = j }) (let f = one_words v vars true h.0 in let e : (u.store.heap + 2) + binding_words x.unit vars ≡ u.store.heap + binding_words x.unit (v ∷ vars) = omega (arith, f) in e);
           moves_as = (let f = one_words v vars true h.0 in omega (arith, k.moves_as, f));
           waiting_as = k.waiting_as;

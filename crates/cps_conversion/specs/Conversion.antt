@@ -40,14 +40,14 @@ pub record Translation : Type 0 where
 abbrev pub Stands : Translation → ℕ → Step → Type 0
 Stands x t term = slice_get x.cps.terms.items t ≡ Some term
 
--- The node's value goes to the continuation, from the term at `t` on. Of the variables in use around it these are the unit's that are
--- bound there, and all that are held, so that no term on the way binds one of them.
+-- The node's value goes to the continuation, from the term at `t` on. Around it these variables of the unit are bound, and these variables
+-- are held: no term on the way binds one of them.
 abbrev pub Converting : Type 1
 Converting = (form : ℕ) (bound held : List ℕ) (key : ℕ) (k : Cont) (t : ℕ) → Type 0
 
 -- ---- variables
 
--- a variable that isn't in use and that no SET assigns
+-- a variable that isn't held and that no SET assigns
 pub record IsNew (x : Translation) (held : List ℕ) (v : Var) : Type 0 where
   pub apart : is_in held v.0 ≡ false
   pub unassigned : is_assigned x.unit v ≡ false
@@ -57,7 +57,7 @@ abbrev pub AreNew : Translation → List ℕ → List Var → Type 0
 AreNew x held [] = Unit {0}
 AreNew x held (v ∷ vars) = IsNew x held v × AreNew x (v.0 ∷ held) vars
 
--- variables come into use one after the other
+-- variables are added one after the other
 abbrev pub adding : List Var → List ℕ → List ℕ
 adding [] held = held
 adding (v ∷ vars) held = adding vars (v.0 ∷ held)
@@ -98,8 +98,8 @@ abbrev pub IsBound : List ℕ → Arg → Type 0
 IsBound bound (Argument.Var v) = is_in bound v.0 ≡ true
 IsBound bound _ = Unit {0}
 
--- Nodes from left to right, each an argument: from `t` to `last` their values are found, and then `inner` are in use. A node that is
--- ready stands as it is; another one has a new variable, or the one where its value is to go, which every node has that is to go to one.
+-- Nodes from left to right, each an argument: from `t` to `last` their values are found, and then `inner` are held. A node that is ready
+-- stands as it is, and another one has a new variable; but where a variable of its own is given for a node, its value goes there.
 abbrev pub Values : Translation → Converting → ℕ → List ℕ → List ℕ → List (Option Var) → List ℕ → List Arg → ℕ → ℕ → List ℕ → Type 0
 Values x conv form bound held [] [] [] t last inner = (last ≡ t) × (inner ≡ held)
 Values x conv form bound held (None ∷ tos) (key ∷ keys) (a ∷ args) t last inner =
@@ -126,7 +126,7 @@ OverOne x conv form bound held key term t = (a : Arg) × OverAll x conv form bou
 
 -- ---- procedures
 
--- a procedure with these parameters and this body, where these variables are in use around it
+-- a procedure with these parameters and this body, where these variables are bound around it
 pub record LamAs (x : Translation) (conv : Converting) (form : ℕ) (bound : List ℕ) (params : List Var) (body : ℕ) (lam : Lam) : Type 0 where
   pub start : ℕ
   pub names_new : AreNew x bound lam.params
@@ -190,7 +190,7 @@ pub record LetAs (x : Translation) (conv : Converting) (form : ℕ) (bound held 
 abbrev pub unset : UnitCore → Var → Arg
 unset unit v = if is_assigned unit v then Argument.Const Constant.Nil else Argument.Var v
 
--- the assigned ones of these variables come into use
+-- the assigned ones of these variables are added
 abbrev pub adding_assigned : UnitCore → List Var → List ℕ → List ℕ
 adding_assigned unit [] held = held
 adding_assigned unit (v ∷ vars) held = adding_assigned unit vars (if is_assigned unit v then v.0 ∷ held else held)
