@@ -1,0 +1,4 @@
+//! Assigned variables become cells (`specs/AssignedCells.antt`), and what follows from that (`specs/CellLaws.antt`).
+#![tactic(auto)]
+
+pub mod laws;

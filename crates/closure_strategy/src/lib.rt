@@ -1,0 +1,6 @@
+//! Where the closure of each procedure of a program in continuation-passing style is kept (`specs/Plans.antt`).
+#![tactic(auto)]
+
+mod plans;
+
+pub use crate::plans::{Plan, Strategy};

@@ -1,0 +1,2 @@
+pub mod LiveVariables
+pub mod KnownMarks
