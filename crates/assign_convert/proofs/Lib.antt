@@ -1,1 +1,4 @@
 pub mod Ruled
+pub mod Terms
+pub mod Steps
+pub mod Kept

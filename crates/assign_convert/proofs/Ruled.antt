@@ -42,6 +42,13 @@ pub record LamRuled (a : Cps) (lam : Lam) : Type 0 where
 abbrev pub LamAt : Cps → ℕ → Type 0
 LamAt a l = (lam : Lam) → slice_get a.lams.items l ≡ Some lam → LamRuled a lam
 
+-- what a ruled term has: its LAMBDAs, and the terms that it names
+pub record Has (a : Cps) (term : Term) : Type 0 where
+  pub alone : AssignsAlone a term
+  pub lams : AllByRecursion (LamAt a) (lams_of term)
+  pub terms : AllByRecursion (λ p. Ruled a p.at) (term_parts [] term)
+  pub conts : AllByRecursion (λ p. Ruled a p.at) (cont_parts (behind [] term) (cont_of term))
+
 -- ---- what is reached is so
 
 module _ (a : Cps) where
@@ -135,13 +142,6 @@ module _ (a : Cps) (formed : IsFormed a) (loads : HasLoads a) where
       let one = one_lam depth r l (nat_lt l (first_lams a)) (slice_get a.lams.items l) (filter_map (lambda_at a) ls) refl refl h k in
       (one.0, lams_ruled depth r ls one.1 one.2)
 
-  -- what a ruled term has: its LAMBDAs, and the terms that it names
-  pub record Has (term : Term) : Type 0 where
-    pub alone : AssignsAlone a term
-    pub lams : AllByRecursion (LamAt a) (lams_of term)
-    pub terms : AllByRecursion (λ p. Ruled a p.at) (term_parts [] term)
-    pub conts : AllByRecursion (λ p. Ruled a p.at) (cont_parts (behind [] term) (cont_of term))
-
   some_more : (P Q : Term → Type 0) (o : Option Term) → ((x : Term) → P x → Q x) → IsSomeAnd o P → IsSomeAnd o Q
   some_more P Q None k h = absurd h
   some_more P Q (Some x) k h = k x h
@@ -149,10 +149,11 @@ module _ (a : Cps) (formed : IsFormed a) (loads : HasLoads a) where
   at_depth : (depth : ℕ) (ps : List Part) → AllByRecursion (λ p. RuledWithin a depth p.at) ps → AllByRecursion (λ p. Ruled a p.at) ps
   at_depth depth ps h = each_more (λ p. RuledWithin a depth p.at) (λ p. Ruled a p.at) ps (λ p g. (depth, g)) h
 
-  pub has : (t : ℕ) → Ruled a t → IsSomeAnd (slice_get a.terms.items t) Has
+  pub has : (t : ℕ) → Ruled a t → IsSomeAnd (slice_get a.terms.items t) (Has a)
+  unfolding RuledWithin
   has t h = by_depth h.0 h.1
     where
-      has_parts : (depth : ℕ) (term : Term) → Alone a term × AllByRecursion (λ p. RuledWithin a depth p.at) (parts_of a [] term) → Has term
+      has_parts : (depth : ℕ) (term : Term) → Alone a term × AllByRecursion (λ p. RuledWithin a depth p.at) (parts_of a [] term) → Has a term
       has_parts depth term g =
           let Q = λ (p : Part). RuledWithin a depth p.at in
           let lambdas = map (lambda_part (around term)) (lambdas_of a term) in
@@ -164,7 +165,6 @@ module _ (a : Cps) (formed : IsFormed a) (loads : HasLoads a) where
             conts = at_depth depth (cont_parts (behind [] term) (cont_of term)) (each_right Q (term_parts [] term) (cont_parts (behind [] term) (cont_of term)) own);
           }
 
-      by_depth : (depth : ℕ) → RuledWithin a depth t → IsSomeAnd (slice_get a.terms.items t) Has
-      unfolding RuledWithin
+      by_depth : (depth : ℕ) → RuledWithin a depth t → IsSomeAnd (slice_get a.terms.items t) (Has a)
       by_depth zero g = absurd g
-      by_depth (suc depth) g = some_more (λ term. Alone a term × AllByRecursion (λ p. RuledWithin a depth p.at) (parts_of a [] term)) Has (slice_get a.terms.items t) (has_parts depth) g
+      by_depth (suc depth) g = some_more (λ term. Alone a term × AllByRecursion (λ p. RuledWithin a depth p.at) (parts_of a [] term)) (Has a) (slice_get a.terms.items t) (has_parts depth) g
