@@ -1,2 +1,9 @@
 //! The terms of a program in continuation-passing style that are reached, in order.
 #![tactic(auto)]
+
+mod parts;
+mod walks;
+
+pub use crate::parts::{first_lams, global_lams};
+pub use crate::walks::walk;
+
