@@ -4,3 +4,4 @@ pub mod Steps
 pub mod Kept
 pub mod Marks
 pub mod Shapes
+pub mod Loaded

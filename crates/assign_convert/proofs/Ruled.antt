@@ -1,19 +1,20 @@
 -- What the rule on assigned variables says of a term and of all that it is made of.
 use Rattle.std.specs.Prelude.{nat_lt, All, IsSomeAnd}
-use Rattle.std.specs.List.{AllByRecursion, filter, filter_map, flat_map, cons_option}
+use Rattle.std.specs.List.{AllByRecursion, filter, filter_map, flat_map, cons_option, list_any}
 use Rattle.std.specs.Option.{option_map_or}
 use Rattle.std.proofs.Common.{◌≡◌, ℕ, zero, suc, ◌<◌, List, [], ◌∷◌, ◌++◌, length, take, map, Option, Some, None, Bool, true, false, if◌then◌else◌, slice_get, refl, sym, ap, ◌∙◌, subst, arith, le_trans}
 use Rattle.std.proofs.lemmas.Bool.{ltb-true}
 use Rattle.t_base.specs.declared.basics.Var.{Var}
 use Rattle.cps_ir.specs.declared.terms.Lam.{Lam}
 use Rattle.cps_ir.specs.declared.terms.Term.{Term}
+use Rattle.cps_ir.specs.declared.terms.Term.TheVariants as Node
 use Rattle.cps_ir.specs.declared.terms.Cps.{Cps}
 use Rattle.cps_ir.specs.Terms.{cont_of}
-use Rattle.cps_ir.specs.Parts.{first_lams, is_assigned, Name, Part, behind, term_parts, cont_parts, own_parts, lams_of, lambda_at, lambdas_of, around, lambda_part, parts_of, root_lams, root_parts, depth_of, walked, walked_within, reached_terms, reached_lams, lam_binders}
+use Rattle.cps_ir.specs.Parts.{first_lams, assigns, is_assigned, Name, Part, behind, term_parts, cont_parts, own_parts, lams_of, lambda_at, lambdas_of, around, lambda_part, parts_of, root_lams, root_parts, depth_of, walked, walked_within, reached_terms, reached_lams, lam_binders}
 use Rattle.cps_ir.specs.Loads.{Unassigned, AssignsAlone, HasLoads}
 use Rattle.cps_ir.specs.Whole.{UsesVariables, HoldsWithin, IsFormed}
-use Rattle.cps_ir.proofs.ProperLists.{some_same, none_some, all_at, each_append, each_left, each_right, each_more, each_of_all, each_unjoined, each_taken, there_below}
-use Rattle.cps_ir.proofs.Closed.{parts_same}
+use Rattle.cps_ir.proofs.ProperLists.{some_same, none_some, all_at, each_append, each_left, each_right, each_more, each_of_all, each_unjoined, each_joined, each_taken, there_below}
+use Rattle.cps_ir.proofs.Closed.{parts_same, or_left, or_right, same_number}
 
 -- ---- terms
 
@@ -21,8 +22,14 @@ use Rattle.cps_ir.proofs.Closed.{parts_same}
 abbrev pub LamAlone : Cps → Lam → Type 0
 LamAlone a lam = Unassigned a (lam_binders lam)
 
+-- what a Set names is assigned
+abbrev pub SetsAssigned : Cps → Term → Type 0
+SetsAssigned a (Node.Set x value k) = is_assigned a x.0 ≡ true
+SetsAssigned a _ = Unit {0}
+
 -- the rule, at a term and its LAMBDAs
 pub record Alone (a : Cps) (term : Term) : Type 0 where
+  pub set : SetsAssigned a term
   pub assigns : AssignsAlone a term
   pub lams : AllByRecursion (LamAlone a) (lambdas_of a term)
 
@@ -99,17 +106,66 @@ module _ (a : Cps) where
       )
 
   -- of each term that is reached, from the rule
-  each_alone : (ts : List Term) → AllByRecursion (AssignsAlone a) ts → AllByRecursion (LamAlone a) (flat_map (lambdas_of a) ts) → Each ts
-  each_alone [] h k = tt
-  each_alone (t ∷ ts) h k = (record { assigns = h.0; lams = each_left (LamAlone a) (lambdas_of a t) (flat_map (lambdas_of a) ts) k }, each_alone ts h.1 (each_right (LamAlone a) (lambdas_of a t) (flat_map (lambdas_of a) ts) k))
+  each_alone : (ts : List Term) → AllByRecursion (SetsAssigned a) ts → AllByRecursion (AssignsAlone a) ts → AllByRecursion (LamAlone a) (flat_map (lambdas_of a) ts) → Each ts
+  each_alone [] s h k = tt
+  each_alone (t ∷ ts) s h k =
+      (record { set = s.0; assigns = h.0; lams = each_left (LamAlone a) (lambdas_of a t) (flat_map (lambdas_of a) ts) k }, each_alone ts s.1 h.1 (each_right (LamAlone a) (lambdas_of a t) (flat_map (lambdas_of a) ts) k))
+
+  set_found : (t : Term) → ((x : ℕ) → assigns x t ≡ true → is_assigned a x ≡ true) → SetsAssigned a t
+  set_found (Node.Set x value k) h = h x.0 (same_number x.0 x.0 refl)
+  set_found (Node.Give k value) h = tt
+  set_found (Node.Call g args k) h = tt
+  set_found (Node.Prim b args k) h = tt
+  set_found (Node.If test s t) h = tt
+  set_found (Node.Labels vars lams body) h = tt
+  set_found (Node.Join k param body rest) h = tt
+  set_found (Node.Cell y value k) h = tt
+  set_found (Node.CellGet y k) h = tt
+  set_found (Node.CellSet y value k) h = tt
+  set_found (Node.GlobalGet i k) h = tt
+  set_found (Node.GlobalInit i value k) h = tt
+  set_found (Node.GlobalSet i value k) h = tt
+  set_found (Node.Catch escape body k) h = tt
+  set_found (Node.Uncatch k value) h = tt
+  set_found (Node.Object proc ops methods k) h = tt
+  set_found (Node.Halt value) h = tt
+
+  sets_found : (ts : List Term) → ((x : ℕ) → list_any (assigns x) ts ≡ true → is_assigned a x ≡ true) → AllByRecursion (SetsAssigned a) ts
+  sets_found [] h = tt
+  sets_found (t ∷ ts) h = (set_found t (λ x e. h x (or_left (assigns x t) (list_any (assigns x) ts) e)), sets_found ts (λ x e. h x (or_right (assigns x t) (list_any (assigns x) ts) e)))
+
+  -- a term that is ruled reaches ruled terms alone
+  reach_ruled : (k t : ℕ) → RuledWithin a k t → (depth : ℕ) → AllByRecursion (Ruled a) (walked_within a depth t)
+  unfolding walked_within RuledWithin
+  reach_ruled zero t h depth = absurd h
+  reach_ruled (suc k) t h zero = tt
+  reach_ruled (suc k) t h (suc depth) = ((suc k, h), by_option (slice_get a.terms.items t) h (λ r g. reach_ruled k r g depth))
+    where
+      by_option : (o : Option Term) → IsSomeAnd o (λ term. Alone a term × AllByRecursion (λ p. RuledWithin a k p.at) (parts_of a [] term)) → ((r : ℕ) → RuledWithin a k r → AllByRecursion (Ruled a) (walked_within a depth r))
+          → AllByRecursion (Ruled a) (option_map_or (λ term. flat_map (λ p. walked_within a depth p.at) (parts_of a [] term)) o [])
+      by_option None h go = absurd h
+      by_option (Some term) h go =
+          each_joined (λ p. walked_within a depth p.at) (Ruled a) (parts_of a [] term) (each_more (λ p. RuledWithin a k p.at) (λ p. AllByRecursion (Ruled a) (walked_within a depth p.at)) (parts_of a [] term) (λ p g. go p.at g) h.1)
 
 module _ (a : Cps) (formed : IsFormed a) (loads : HasLoads a) where
-  reached_alone : AllByRecursion (Alone a) (reached_terms a)
-  reached_alone = each_alone a (reached_terms a) (each_of_all (AssignsAlone a) (reached_terms a) loads.assigned)
+  pub reached_alone : AllByRecursion (Alone a) (reached_terms a)
+  reached_alone = each_alone a (reached_terms a) (sets_found a (reached_terms a) (λ x e. e)) (each_of_all (AssignsAlone a) (reached_terms a) loads.assigned)
       (each_right (LamAlone a) (root_lams a) (flat_map (lambdas_of a) (reached_terms a)) (each_of_all (LamAlone a) (reached_lams a) loads.parameters))
 
-  roots_ruled : AllByRecursion (λ p. RuledWithin a (depth_of a) p.at) (root_parts a)
+  pub roots_ruled : AllByRecursion (λ p. RuledWithin a (depth_of a) p.at) (root_parts a)
   roots_ruled = both a (root_parts a) (λ x h e. ruled a (depth_of a) x.binds x.catches x.at h e) formed.scopes.used (found_parts a (depth_of a) (root_parts a) reached_alone)
+
+  pub walked_ruled : AllByRecursion (Ruled a) (walked a)
+  walked_ruled =
+      each_joined (λ p. walked_within a (depth_of a) p.at) (Ruled a) (root_parts a)
+      (each_more (λ p. RuledWithin a (depth_of a) p.at) (λ p. AllByRecursion (Ruled a) (walked_within a (depth_of a) p.at)) (root_parts a) (λ p h. reach_ruled a (depth_of a) p.at h (depth_of a)) roots_ruled)
+
+  pub lams_of_roots : AllByRecursion (LamRuled a) (root_lams a)
+  lams_of_roots = by_list (root_lams a) roots_ruled.1 (each_left (LamAlone a) (root_lams a) (flat_map (lambdas_of a) (reached_terms a)) (each_of_all (LamAlone a) (reached_lams a) loads.parameters))
+    where
+      by_list : (ls : List Lam) → AllByRecursion (λ p. RuledWithin a (depth_of a) p.at) (map (lambda_part []) ls) → AllByRecursion (LamAlone a) ls → AllByRecursion (LamRuled a) ls
+      by_list [] h k = tt
+      by_list (l ∷ ls) h k = (record { alone = k.0; body = (depth_of a, h.0) }, by_list ls h.1 k.1)
 
   pub entry_ruled : Ruled a a.entry
   entry_ruled = (depth_of a, roots_ruled.0)

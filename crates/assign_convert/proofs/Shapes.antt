@@ -279,10 +279,10 @@ module _ (a d : Cps) (terms : d.terms.items ≡ map (celled (is_assigned a)) a.t
   pub opened_at_same : (t : ℕ) → opened_at b t ≡ opened_at a t
   opened_at_same t = ap (λ n. opened_within b n t) depth_same ∙ opened_within_same (depth_of a) t
 
-  occurring_same : (t u : Term) → shapes_of (parts_of b [] u) ≡ shapes_of (parts_of a [] t) → occurring b u ≡ occurring a t
+  pub occurring_same : (t u : Term) → shapes_of (parts_of b [] u) ≡ shapes_of (parts_of a [] t) → occurring b u ≡ occurring a t
   occurring_same t u e = flat_shapes (λ s. free_at b s.at) (λ s. free_at a s.at) (parts_of b [] u) (parts_of a [] t) (λ s. free_same s.at) e
 
-  opened_same : (t u : Term) → shapes_of (parts_of b [] u) ≡ shapes_of (parts_of a [] t) → opened b u ≡ opened a t
+  pub opened_same : (t u : Term) → shapes_of (parts_of b [] u) ≡ shapes_of (parts_of a [] t) → opened b u ≡ opened a t
   opened_same t u e = flat_shapes (λ s. if s.lambda then free_at b s.at else opened_at b s.at) (λ s. if s.lambda then free_at a s.at else opened_at a s.at) (parts_of b [] u) (parts_of a [] t) (λ s. by_test s.lambda s.at) e
     where
       by_test : (lambda : Bool) (at : ℕ) → (if lambda then free_at b at else opened_at b at) ≡ (if lambda then free_at a at else opened_at a at)
