@@ -128,7 +128,7 @@ seen_no_more a r s h = subst (λ z. z.moves ≤ r.moves → IsNoMore (seen r) (s
 
 -- ---- the whole
 
-same_parts : (a b : Cps) → AreCells a b → b ≡ with_terms a b
+pub same_parts : (a b : Cps) → AreCells a b → b ≡ with_terms a b
 same_parts a b e =
     ap {A = Rattle.t_base.specs.declared.shared_parts.Shared.Shared} (λ s. record b { shared = s }) e.shared ∙ ap (λ l. record b { shared = a.shared; lams = l }) e.lams ∙ ap (λ n. record b { shared = a.shared; lams = a.lams; entry = n }) e.entry
 

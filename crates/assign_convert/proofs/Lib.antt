@@ -5,3 +5,5 @@ pub mod Kept
 pub mod Marks
 pub mod Shapes
 pub mod Loaded
+pub mod Wholes
+pub mod Sound

@@ -2,7 +2,8 @@
 ghost use Rattle.std.specs.Prelude.{◌≡◌, map, IfOk, MatchOption};
 ghost use Rattle.cps_ir.specs.Whole.{IsWhole};
 ghost use Rattle.cps_ir.specs.Loads.{HasLoads};
-ghost use Rattle.assign_convert.specs.AssignedCells.{is_marked, read, given, celled, AreCells};
+ghost use Rattle.assign_convert.specs.AssignedCells.{is_marked, read, given, celled};
+ghost use Rattle.assign_convert.specs.CellLaws.{IsCellForm};
 
 use crate::assigned::{assigned, is_marked};
 use cps_ir::{Arg, Cont, Cps, Term};
@@ -76,7 +77,7 @@ fn convert(marks: &[bool], terms: &mut [Term])
 pub fn cells(alloc: Global, cps: Cps) -> Result<Cps, Memory>
     requires whole { IsWhole cps }
     requires loads { HasLoads cps }
-    ensures { IfOk result (AreCells cps) }
+    ensures { IfOk result (IsCellForm cps) }
 {
     let marks = assigned(alloc, &cps)?;
     let mut converted = cps;
