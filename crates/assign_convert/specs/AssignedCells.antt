@@ -1,6 +1,5 @@
 -- Assigned variables become cells: what stands in place of each term.
-use Rattle.std.specs.Prelude.{◌≡◌, ℕ, Bool, false, if◌then◌else◌, List, map, slice_get}
-use Rattle.std.specs.Option.{option_map_or}
+use Rattle.std.specs.Prelude.{◌≡◌, ℕ, Bool, if◌then◌else◌, map}
 use Rattle.cps_ir.specs.declared.args.Arg.{Arg}
 use Rattle.cps_ir.specs.declared.args.Arg.TheVariants as Argument
 use Rattle.cps_ir.specs.declared.terms.Cont.{Cont}
@@ -50,7 +49,3 @@ pub record AreCells (a b : Cps) : Type 0 where
   pub lams : b.lams ≡ a.lams
   pub entry : b.entry ≡ a.entry
   pub terms : b.terms.items ≡ map (celled (is_assigned a)) a.terms.items
-
--- whether a variable is marked; those behind the last mark aren't
-abbrev pub is_marked : List Bool → ℕ → Bool
-is_marked marks x = option_map_or (λ marked. marked) (slice_get marks x) false

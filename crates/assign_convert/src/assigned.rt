@@ -1,50 +1,20 @@
 // Which variables of a program are assigned.
-ghost use Rattle.std.specs.Prelude.{◌≡◌, ℕ, ◌<◌, ◌||◌, ◌==◌, length, IfOk, OnOk};
+ghost use Rattle.std.specs.Prelude.{◌≡◌, ℕ, ◌||◌, IfOk, OnOk};
 ghost use Rattle.cps_ir.specs.Parts.{assigns, is_assigned};
 ghost use Rattle.cps_ir.specs.Whole.{IsWhole};
-ghost use Rattle.assign_convert.specs.AssignedCells.{is_marked};
+ghost use Rattle.cps_walk.specs.Marked.{is_marked};
 
 use cps_ir::{Cps, Term};
-use cps_walk::walk;
+use cps_walk::{mark, walk};
 use std::alloc::Global;
-use t_base::{Memory, Var};
-
-/// Whether a variable is marked. Those behind the last mark aren't.
-pub(crate) fn is_marked(marks: &[bool], x: Var) -> bool
-    ensures { result ≡ is_marked marks.now x.0 }
-{
-    match marks.get(x.0 as usize) {
-        None => false,
-        Some(marked) => *marked,
-    }
-}
-
-/// Makes room for the mark of a variable.
-fn grow(marks: &mut Vec<bool>, x: Var) -> Result<(), Memory>
-    ensures room { OnOk result (x.0 < length marks.new.items) }
-    ensures same { OnOk result ((y : ℕ) → is_marked marks.new.items y ≡ is_marked marks.old.items y) }
-{
-    while marks.len() <= x.0 as usize {
-        marks.push(false)?;
-    }
-    Ok(())
-}
-
-/// Marks a variable.
-fn mark(marks: &mut Vec<bool>, x: Var) -> Result<(), Memory>
-    ensures { OnOk result ((y : ℕ) → is_marked marks.new.items y ≡ (is_marked marks.old.items y || x.0 == y)) }
-{
-    grow(marks, x)?;
-    marks[x.0 as usize] = true;
-    Ok(())
-}
+use t_base::Memory;
 
 /// Marks the variable that a term assigns, if it assigns one.
 fn mark_assigned(marks: &mut Vec<bool>, term: &Term) -> Result<(), Memory>
     ensures { OnOk result ((y : ℕ) → is_marked marks.new.items y ≡ (is_marked marks.old.items y || assigns y term.now)) }
 {
     if let Term::Set { var, .. } = term {
-        mark(marks, *var)?;
+        mark(marks, var.0)?;
     }
     Ok(())
 }

@@ -2,11 +2,13 @@
 ghost use Rattle.std.specs.Prelude.{◌≡◌, map, IfOk, MatchOption};
 ghost use Rattle.cps_ir.specs.Whole.{IsWhole};
 ghost use Rattle.cps_ir.specs.Loads.{HasLoads};
-ghost use Rattle.assign_convert.specs.AssignedCells.{is_marked, read, given, celled};
+ghost use Rattle.assign_convert.specs.AssignedCells.{read, given, celled};
+ghost use Rattle.cps_walk.specs.Marked.{is_marked};
 ghost use Rattle.assign_convert.specs.CellLaws.{IsCellForm};
 
-use crate::assigned::{assigned, is_marked};
+use crate::assigned::assigned;
 use cps_ir::{Arg, Cont, Cps, Term};
+use cps_walk::is_marked;
 use std::alloc::Global;
 use t_base::Memory;
 
@@ -15,7 +17,7 @@ fn read(marks: &[bool], k: Cont, value: Arg) -> Option<Term>
     ensures { MatchOption result (read (is_marked marks.now) k value ≡ Term.Give k value) (λ t. t ≡ read (is_marked marks.now) k value) }
 {
     if let Arg::Var(x) = value {
-        if is_marked(marks, x) {
+        if is_marked(marks, x.0) {
             return Some(Term::CellGet { cell: x, k });
         }
     }
@@ -27,7 +29,7 @@ fn given(marks: &[bool], k: Cont, value: Arg) -> Option<Term>
     ensures { MatchOption result (given (is_marked marks.now) k value ≡ Term.Give k value) (λ t. t ≡ given (is_marked marks.now) k value) }
 {
     if let Cont::Lam { param, body } = k {
-        if is_marked(marks, param) {
+        if is_marked(marks, param.0) {
             return Some(Term::Cell {
                 var: param,
                 value,

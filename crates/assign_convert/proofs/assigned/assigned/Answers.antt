@@ -1,7 +1,7 @@
 use Rattle.std.specs.Prelude.{All}
 use Rattle.std.proofs.Common.{◌∙◌, ◌≡◌, ◌<◌, ◌||◌, length, take, sym, ap, subst, arith}
 use Rattle.cps_ir.specs.Parts.{assigns}
-use Rattle.assign_convert.specs.AssignedCells.{is_marked}
+use Rattle.cps_walk.specs.Marked.{is_marked}
 use Rattle.assign_convert.proofs.Marks.{assigned_in, assigned_more, taken_all}
 use Rattle.assign_convert.proofs.assigned.assigned.Goals as goal
 

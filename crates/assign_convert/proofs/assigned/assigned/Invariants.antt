@@ -1,5 +1,5 @@
 use Rattle.std.proofs.Common.{◌≡◌, ℕ, take}
-use Rattle.assign_convert.specs.AssignedCells.{is_marked}
+use Rattle.cps_walk.specs.Marked.{is_marked}
 use Rattle.assign_convert.proofs.Marks.{assigned_in}
 use Rattle.assign_convert.proofs.assigned.assigned.Given as goal
 

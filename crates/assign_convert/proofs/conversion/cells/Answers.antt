@@ -1,7 +1,8 @@
 use Rattle.std.proofs.Common.{◌∙◌, refl, ap, map, length}
 use Rattle.std.proofs.lemmas.List.{length-map}
 use Rattle.cps_ir.specs.Parts.{is_assigned}
-use Rattle.assign_convert.specs.AssignedCells.{celled, is_marked}
+use Rattle.cps_walk.specs.Marked.{is_marked}
+use Rattle.assign_convert.specs.AssignedCells.{celled}
 use Rattle.assign_convert.proofs.Marks.{all_celled_same, refilled}
 use Rattle.assign_convert.proofs.Sound.{cells_are_sound}
 use Rattle.assign_convert.proofs.conversion.cells.Goals as goal

@@ -1,6 +1,7 @@
 use Rattle.std.proofs.Common.{◌∙◌, sym, ap, set}
 use Rattle.std.proofs.lemmas.List.Edits.{map_over_more}
-use Rattle.assign_convert.specs.AssignedCells.{celled, is_marked}
+use Rattle.cps_walk.specs.Marked.{is_marked}
+use Rattle.assign_convert.specs.AssignedCells.{celled}
 use Rattle.assign_convert.proofs.conversion.convert.Goals as goal
 
 pub loop-term-preserved : goal.loop-term-preserved

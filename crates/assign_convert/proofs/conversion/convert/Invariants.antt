@@ -1,5 +1,6 @@
 use Rattle.std.proofs.Common.{◌≡◌, ◌++◌, map, take, drop}
-use Rattle.assign_convert.specs.AssignedCells.{celled, is_marked}
+use Rattle.cps_walk.specs.Marked.{is_marked}
+use Rattle.assign_convert.specs.AssignedCells.{celled}
 use Rattle.assign_convert.proofs.conversion.convert.Given as goal
 
 abbrev pub invariant-loop-term : goal.invariant-loop-term
