@@ -82,7 +82,7 @@ kept (y ∷ xs) x zero lt = refl
 kept (y ∷ xs) x (suc l) lt = kept xs x l (omega (arith, lt))
 
 pub one_made : {X : Type 0} (make : ℕ → X) (count : ℕ) (xs ys : List X) (x : X) → IsMade make count xs → ys ≡ xs ++ x ∷ [] → x ≡ make count → IsMade make (count + 1) ys
-one_made make count xs ys x h e q = record {
+one_made {X = X} make count xs ys x h e q = record {
   counted = ap length e ∙ by_length xs ∙ ap (λ n. n + 1) h.counted;
   each = λ l lt. ap (λ zs. slice_get zs l) e ∙ by_place l (cases l count (omega (arith, lt)));
 }

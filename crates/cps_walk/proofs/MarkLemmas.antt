@@ -36,4 +36,3 @@ marked_set xs i lt y = by_test (i == y) refl
     by_test : (b : Bool) → (i == y) ≡ b → is_marked (set xs i true) y ≡ (is_marked xs y || b)
     by_test true e = subst (λ z. is_marked (set xs i true) z ≡ true) (eqb-true i y e) (marked_there xs i lt) ∙ or_all (is_marked xs y)
     by_test false e = marked_apart xs i y (λ q. true≢false (sym (eq-eqb i y q) ∙ e)) ∙ or_nothing (is_marked xs y)
-

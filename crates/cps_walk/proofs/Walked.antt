@@ -2,7 +2,7 @@
 use Rattle.std.specs.Prelude.{All, IsSomeAnd}
 use Rattle.std.specs.List.{AllByRecursion, flat_map}
 use Rattle.std.specs.Option.{option_map_or}
-use Rattle.std.proofs.Common.{◌≡◌, ℕ, zero, suc, ◌+◌, ◌≤◌, ◌<◌, List, [], ◌∷◌, ◌++◌, length, take, map, reverse, slice_get, Option, Some, None, refl, sym, ap, ◌∙◌, subst, arith, append_assoc}
+use Rattle.std.proofs.Common.{◌≡◌, ℕ, zero, suc, ◌≤◌, ◌<◌, List, [], ◌∷◌, ◌++◌, length, map, reverse, slice_get, Option, Some, None, refl, sym, ap, ◌∙◌, subst, arith, append_assoc}
 use Rattle.std.proofs.lemmas.List.{map-append, reverse-append, reverse-reverse}
 use Rattle.std.proofs.lemmas.List.Folds.{flat_map-map}
 use Rattle.std.proofs.lemmas.Grind.{flat_map-append}
@@ -10,8 +10,8 @@ use Rattle.cps_ir.specs.declared.terms.Lam.{Lam}
 use Rattle.cps_ir.specs.declared.terms.Term.{Term}
 use Rattle.cps_ir.specs.declared.terms.Cps.{Cps}
 use Rattle.cps_ir.specs.Parts.{Name, Part, own_parts, lambdas_of, around, lambda_part, parts_of, root_lams, root_parts, depth_of, walked, walked_within}
-use Rattle.cps_ir.specs.Whole.{UsesVariables, HoldsWithin, IsFormed, IsWhole}
-use Rattle.cps_ir.proofs.ProperLists.{some_same, none_some, each_append, each_left, each_right, each_more, each_of_two, each_joined}
+use Rattle.cps_ir.specs.Whole.{UsesVariables, HoldsWithin, IsFormed}
+use Rattle.cps_ir.proofs.ProperLists.{none_some, each_append, each_more, each_joined}
 use Rattle.cps_ir.proofs.Closed.{parts_same, all_of_each}
 use Rattle.cps_ir.proofs.Inside.{flat_same}
 use Rattle.cps_walk.specs.Walks.{places_of, part_places, root_places, places_under}

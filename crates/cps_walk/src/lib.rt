@@ -8,4 +8,3 @@ mod walks;
 pub use crate::marks::{is_marked, mark};
 pub use crate::parts::{first_lams, global_lams};
 pub use crate::walks::walk;
-

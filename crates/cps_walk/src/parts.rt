@@ -97,7 +97,12 @@ fn push_args(cps: &Cps, first: usize, args: &[Arg], waiting: &mut Vec<u32>) -> R
 }
 
 /// Puts the bodies of the LAMBDAs of a term last.
-fn push_term_lambdas(cps: &Cps, first: usize, term: &Term, waiting: &mut Vec<u32>) -> Result<(), Memory>
+fn push_term_lambdas(
+    cps: &Cps,
+    first: usize,
+    term: &Term,
+    waiting: &mut Vec<u32>,
+) -> Result<(), Memory>
     requires { first ≡ first_lams cps.now }
     ensures { OnOk result (waiting.new.items ≡ waiting.old.items ++ lambda_places cps.now term.now) }
 {
@@ -121,7 +126,8 @@ fn push_term_lambdas(cps: &Cps, first: usize, term: &Term, waiting: &mut Vec<u32
         Term::GlobalSet { value, .. } => push_arg(cps, first, *value, waiting),
         Term::Uncatch { value, .. } => push_arg(cps, first, *value, waiting),
         Term::Halt { value } => push_arg(cps, first, *value, waiting),
-        Term::Join { .. } | Term::CellGet { .. } | Term::GlobalGet { .. } | Term::Catch { .. } => Ok(()),
+        Term::Join { .. } | Term::CellGet { .. } | Term::GlobalGet { .. } | Term::Catch { .. } =>
+            Ok(()),
     }
 }
 
@@ -172,7 +178,12 @@ fn push_own(term: &Term, waiting: &mut Vec<u32>) -> Result<(), Memory>
 }
 
 /// Puts the parts of a term last.
-pub(crate) fn push_parts(cps: &Cps, first: usize, term: &Term, parts: &mut Vec<u32>) -> Result<(), Memory>
+pub(crate) fn push_parts(
+    cps: &Cps,
+    first: usize,
+    term: &Term,
+    parts: &mut Vec<u32>,
+) -> Result<(), Memory>
     requires { first ≡ first_lams cps.now }
     ensures { OnOk result (parts.new.items ≡ parts.old.items ++ part_places cps.now term.now) }
 {

@@ -10,7 +10,13 @@ use std::alloc::Global;
 use t_base::Memory;
 
 /// Puts the parts of the term at a place to the end of those that wait, the first one last.
-fn visit(cps: &Cps, first: usize, place: u32, parts: &mut Vec<u32>, waiting: &mut Vec<u32>) -> Result<(), Memory>
+fn visit(
+    cps: &Cps,
+    first: usize,
+    place: u32,
+    parts: &mut Vec<u32>,
+    waiting: &mut Vec<u32>,
+) -> Result<(), Memory>
     requires first { first ≡ first_lams cps.now }
     requires there { place < length cps.now.terms.items }
     requires parts { parts.old.items ≡ [] }

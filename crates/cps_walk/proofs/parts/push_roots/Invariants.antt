@@ -1,4 +1,4 @@
-use Rattle.std.proofs.Common.{◌≡◌, ◌++◌, ◌∷◌, [], take, map}
+use Rattle.std.proofs.Common.{◌≡◌, ◌++◌, ◌∷◌, take, map}
 use Rattle.cps_walk.proofs.parts.push_roots.Given as goal
 
 abbrev pub invariant-loop-lam : goal.invariant-loop-lam

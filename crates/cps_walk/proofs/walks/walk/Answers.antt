@@ -1,6 +1,5 @@
 use Rattle.std.specs.Prelude.{All}
-use Rattle.std.proofs.Common.{◌≡◌, ◌<◌, ◌+◌, ◌≤◌, ℕ, [], ◌++◌, length, length-append, ◌∷◌, reverse, refl, sym, ap, ◌∙◌, subst, arith, rules}
-use Rattle.std.proofs.lemmas.Grind.{common_steps}
+use Rattle.std.proofs.Common.{◌≡◌, ◌<◌, ◌+◌, [], ◌++◌, length, length-append, ◌∷◌, reverse, sym, ap, ◌∙◌, subst, arith, rules}
 use Rattle.cps_ir.specs.Parts.{walked}
 use Rattle.cps_walk.specs.Walks.{root_places}
 use Rattle.cps_walk.proofs.Walked.{IsOnItsWay, sets_out, next_there, goes_on, fewer_left, walked_there}
@@ -29,7 +28,7 @@ pub loop-place-smaller : goal.loop-place-smaller
 loop-place-smaller c =
     let more : length c.push.new.self.items ≡ length c.loop-place.places.items + 1 = ap length c.in_ok-push.ensures.items ∙ length-append c.loop-place.places.items (c.in-Some.place ∷ []) in
     let way = goes_on c.args.cps.now c.loop-place.places.items c.loop-place.waiting.items c.pop.new.self.items c.push.new.self.items c.visit.new.waiting.items c.in-Some.place c.loop-place.invariant.way
-            c.in-Some.ensures.items c.in_ok-push.ensures.items c.in_ok-visit.ensures.waiting in
+    c.in-Some.ensures.items c.in_ok-push.ensures.items c.in_ok-visit.ensures.waiting in
     let within = fewer_left c.args.cps.now c.push.new.self.items c.visit.new.waiting.items way in
     omega (arith, more, within)
 
