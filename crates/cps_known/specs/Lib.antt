@@ -1,2 +1,3 @@
 pub mod LiveVariables
 pub mod KnownMarks
+pub mod Binders

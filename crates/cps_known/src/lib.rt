@@ -2,8 +2,9 @@
 //! which procedures and variables count as escaping (`specs/KnownMarks.antt`).
 #![tactic(auto)]
 
+mod binders;
 mod liveness;
 mod marking;
 
 pub use crate::liveness::Live;
-pub use crate::marking::Marks;
+pub use crate::marking::{escapes, Marks};
