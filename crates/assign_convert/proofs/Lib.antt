@@ -7,3 +7,5 @@ pub mod Shapes
 pub mod Loaded
 pub mod Wholes
 pub mod Sound
+pub mod Unmarked
+pub mod MarksStay

@@ -83,7 +83,7 @@ module _ (a d : Cps) (terms : d.terms.items ≡ map (celled (is_assigned a)) a.t
 
   -- ---- what the rule says of the binders and the arguments of a term that stays
 
-  stays_own : (t : Term) → Stays g t → AssignsAlone a t → AllByRecursion (IsFree a) (own_binders t)
+  pub stays_own : (t : Term) → Stays g t → AssignsAlone a t → AllByRecursion (IsFree a) (own_binders t)
   stays_own (Node.Give (Continuation.Var k) value) s h = tt
   stays_own (Node.Give (Continuation.Lam param body) value) s h = (s.0, tt)
   stays_own (Node.Set x value k) s h = absurd s
@@ -315,7 +315,7 @@ module _ (a d : Cps) (terms : d.terms.items ≡ map (celled (is_assigned a)) a.t
 
   -- ---- reach
 
-  lams_free_same : (ls : List ℕ) → free_in_lams after ls ≡ free_in_lams a ls
+  pub lams_free_same : (ls : List ℕ) → free_in_lams after ls ≡ free_in_lams a ls
   lams_free_same [] = refl
   lams_free_same (l ∷ ls) = ap (λ xs. xs ++ free_in_lams after ls) (by_lam (slice_get a.lams.items l)) ∙ ap (λ xs. option_map_or (free_in a) (slice_get a.lams.items l) [] ++ xs) (lams_free_same ls)
     where
@@ -366,7 +366,7 @@ module _ (a d : Cps) (terms : d.terms.items ≡ map (celled (is_assigned a)) a.t
   procs_same : (t : Term) → procs_of (celled g t) ≡ procs_of t
   procs_same t = of_celled g (λ t u. procs_of u ≡ procs_of t) (λ t s. refl) (λ k x s e. refl) (λ param body value e. refl) (λ x value k. refl) t
 
-  methods_same : (t : Term) → methods_of (celled g t) ≡ methods_of t
+  pub methods_same : (t : Term) → methods_of (celled g t) ≡ methods_of t
   methods_same t = of_celled g (λ t u. methods_of u ≡ methods_of t) (λ t s. refl) (λ k x s e. refl) (λ param body value e. refl) (λ x value k. refl) t
 
   abbrev weighed : Cps → List ℕ → Term → ℕ
