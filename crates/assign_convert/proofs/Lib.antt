@@ -6,6 +6,7 @@ pub mod Marks
 pub mod Shapes
 pub mod Loaded
 pub mod Wholes
+pub mod OneCell
 pub mod Sound
 pub mod Unmarked
 pub mod MarksStay

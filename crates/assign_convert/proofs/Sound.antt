@@ -1,5 +1,5 @@
 -- What follows where the assigned variables of a program became cells, in one.
-use Rattle.std.specs.Prelude.{All, sum_by}
+use Rattle.std.specs.Prelude.{All, filter, sum_by}
 use Rattle.std.specs.List.{AllByRecursion, filter_map, list_any, cons_option}
 use Rattle.std.proofs.Common.{◌≡◌, ℕ, zero, suc, ◌+◌, ◌≤◌, Bool, true, false, ◌||◌, List, [], ◌∷◌, length, map, get_or, Option, Some, None, slice_get, refl, sym, ap, ◌∙◌, subst, arith}
 use Rattle.std.proofs.lemmas.List.Elements.{All-map}
@@ -12,19 +12,24 @@ use Rattle.cps_ir.specs.declared.terms.Term.{Term}
 use Rattle.cps_ir.specs.declared.terms.Term.TheVariants as Node
 use Rattle.cps_ir.specs.declared.terms.Cps.{Cps}
 use Rattle.cps_ir.specs.Parts.{assigns, is_assigned, walked, root_lams, reached_terms}
+use Rattle.cps_ir.specs.MarkFacts.{marked_lams, marked_vars, run_marked}
 use Rattle.cps_ir.specs.Whole.{IsWhole}
 use Rattle.cps_ir.specs.Loads.{HasLoads, term_load, lam_load, args_count, bulk_of}
 use Rattle.cps_ir.proofs.ProperLists.{each_more, each_of_all}
 use Rattle.cps_ir.proofs.Closed.{all_of_each}
+use Rattle.cps_ir.proofs.Dearer.{marks_change_heap_alone}
+use Rattle.cps_ir.proofs.Proper.{whole_ends_properly}
 use Rattle.cps_ir.proofs.Counts.{tot, sum_tot, tot_le}
 use Rattle.assign_convert.specs.AssignedCells.{celled, AreCells}
-use Rattle.assign_convert.specs.CellLaws.{is_set, is_catch, is_outer, has_outer, Without, HasSameLoads, HasNoMoreBulk, IsCellForm, CellsAreSound}
+use Rattle.assign_convert.specs.CellLaws.{makes_cell, is_set, is_catch, is_outer, has_outer, Without, HasSameLoads, HasNoMoreBulk, IsCellForm, CellsAreSound}
 use Rattle.assign_convert.proofs.Terms.{with_terms}
-use Rattle.assign_convert.proofs.Ruled.{Ruled, LamRuled, walked_ruled, lams_of_roots}
-use Rattle.assign_convert.proofs.Kept.{same_parts, cells_keep}
+use Rattle.assign_convert.proofs.Ruled.{Ruled, LamAlone, LamRuled, reached_alone, walked_ruled, lams_of_roots}
+use Rattle.assign_convert.proofs.Kept.{IsNoMore, no_more_keeps, same_parts, cells_no_more, cells_keep}
 use Rattle.assign_convert.proofs.Shapes.{StaysCont, StaysArg, Stays, of_celled, count_same, walked_same}
 use Rattle.assign_convert.proofs.Loaded.{load_same, lam_load_same, room_same, loads_after}
 use Rattle.assign_convert.proofs.Wholes.{whole_after}
+use Rattle.assign_convert.proofs.MarksStay.{lams_marked_same, vars_marked_same}
+use Rattle.assign_convert.proofs.OneCell.{one_cell}
 
 -- ---- kinds
 
@@ -151,17 +156,37 @@ module _ (a d : Cps) (terms : d.terms.items ≡ map (celled (is_assigned a)) a.t
       let each = each_of_all (λ t. is_set t ≡ false) a.terms.items h in
       terms ∙ all_unset (is_assigned a) (λ x. unset_none x a.terms.items (walked a) each) a.terms.items each
 
+-- a run with fewer procedures counted as escaping, from the same of the argument
+marked_no_more : (a c : Cps) → IsWhole a → HasLoads a → AreCells a c → ((l : ℕ) → marked_lams c l ≡ marked_lams a l) → (n : ℕ) → IsNoMore (run_marked a n) (run_marked c n)
+marked_no_more a c whole loads e same n =
+    let down = cells_no_more a c whole loads e (marked_lams c) n in
+    let up = marks_change_heap_alone a (marked_lams c) (marked_lams a) (λ l h. sym (same l) ∙ h) n in
+    record {
+      output = down.output ∙ sym up.output;
+      end = down.end ∙ sym up.end;
+      heap = (let x = down.heap in let y = up.heap in omega (arith, x, y));
+      waiting = down.waiting ∙ sym up.waiting;
+      moves = (let x = down.moves in let y = up.moves in omega (arith, x, y));
+    }
+
 pub cells_are_sound : CellsAreSound
 cells_are_sound a b whole loads e =
     let same = same_parts a b e in
+    let alone = reached_alone a whole.formed loads in
+    let roots = each_more (LamRuled a) (LamAlone a) (root_lams a) (λ lam h. h.alone) (lams_of_roots a whole.formed loads) in
+    let lam_marks : (l : ℕ) → marked_lams b l ≡ marked_lams a l = λ l. ap (λ c. marked_lams c l) same ∙ lams_marked_same a b e.terms alone roots l in
     record {
       cells = e;
       keeps = cells_keep a b whole loads e;
+      keeps_marked = no_more_keeps (run_marked a) (run_marked b) (marked_no_more a b whole loads e lam_marks) (λ n d q. whole_ends_properly a (marked_lams a) whole n d q);
+      lam_marks = lam_marks;
+      var_marks = λ x h. ap (λ c. marked_vars c x) same ∙ vars_marked_same a b e.terms alone roots x h;
       whole = subst IsWhole (sym same) (whole_after a b e.terms whole loads);
       loads = subst HasLoads (sym same) (loads_after a b e.terms (walked_ruled a whole.formed loads) (lams_of_roots a whole.formed loads) loads);
       same_loads = subst (HasSameLoads a) (sym same) (same_loads a b e.terms whole loads);
       bulk = subst (HasNoMoreBulk a) (sym same) (bulk a b e.terms whole loads);
       no_set = no_sets a b e.terms whole loads;
+      one_cell = λ x h. ap (λ c. length (filter (makes_cell x) (reached_terms c))) same ∙ one_cell a b e.terms x h whole loads;
       unassigned = stays a b e.terms whole loads;
       catches = no_catches a b e.terms whole loads;
       outer = no_outer a b e.terms whole loads;

@@ -1,5 +1,5 @@
 -- What follows where the assigned variables of a program became cells.
-use Rattle.std.specs.Prelude.{◌≡◌, ℕ, ◌≤◌, Bool, true, false, ◌||◌, All}
+use Rattle.std.specs.Prelude.{◌≡◌, ℕ, ◌≤◌, ◌==◌, Bool, true, false, length, filter, All}
 use Rattle.std.specs.List.{list_any}
 use Rattle.program_runs.specs.Keeps.{Keeps}
 use Rattle.cps_ir.specs.declared.args.Arg.{Arg}
@@ -8,7 +8,8 @@ use Rattle.cps_ir.specs.declared.terms.Term.{Term}
 use Rattle.cps_ir.specs.declared.terms.Term.TheVariants as Node
 use Rattle.cps_ir.specs.declared.terms.Cps.{Cps}
 use Rattle.cps_ir.specs.Terms.{args_of}
-use Rattle.cps_ir.specs.Parts.{walked, root_lams}
+use Rattle.cps_ir.specs.Parts.{is_assigned, walked, reached_terms, root_lams}
+use Rattle.cps_ir.specs.MarkFacts.{marked_lams, marked_vars, run_marked}
 use Rattle.cps_ir.specs.States.{Marking}
 use Rattle.cps_ir.specs.Running.{run}
 use Rattle.cps_ir.specs.Whole.{IsWhole}
@@ -43,6 +44,11 @@ has_outer term = list_any is_outer (args_of term)
 abbrev pub Without : (Term → Bool) → Cps → Type 0
 Without test cps = All (λ term. test term ≡ false) cps.terms.items
 
+-- a new cell of this variable
+abbrev pub makes_cell : ℕ → Term → Bool
+makes_cell x (Node.Cell y value rest) = y.0 == x
+makes_cell x _ = false
+
 -- ---- loads and bulk
 
 -- the same terms are reached, and the loads are the same
@@ -63,13 +69,19 @@ pub record IsCellForm (a b : Cps) : Type 0 where
   pub cells : AreCells a b
   -- the meaning is kept: ends and outputs both ways, words of heap, what waits, and no more moves
   pub keeps : (escapes : Marking) → Keeps 1 0 (run escapes a) (run escapes b)
+  -- also with those alone that are marked
+  pub keeps_marked : Keeps 1 0 (run_marked a) (run_marked b)
+  -- the same LAMBDAs escape, and the same variables but for the assigned ones
+  pub lam_marks : (l : ℕ) → marked_lams b l ≡ marked_lams a l
+  pub var_marks : (x : ℕ) → is_assigned a x ≡ false → marked_vars b x ≡ marked_vars a x
   -- it is a whole program within the rule on loads
   pub whole : IsWhole b
   pub loads : HasLoads b
   pub same_loads : HasSameLoads a b
   pub bulk : HasNoMoreBulk a b
-  -- no variable is assigned any more
+  -- no variable is assigned any more, and each that was has one cell
   pub no_set : Without is_set b
+  pub one_cell : (x : ℕ) → is_assigned a x ≡ true → length (filter (makes_cell x) (reached_terms b)) ≡ 1
   -- what has no Set stays as it is; without catches there are none, nor globals or operations among arguments where there were none
   pub unassigned : Without is_set a → b.terms.items ≡ a.terms.items
   pub catches : Without is_catch a → Without is_catch b
