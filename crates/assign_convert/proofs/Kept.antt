@@ -1,11 +1,11 @@
 -- With cells the meaning is kept.
-use Rattle.std.specs.Prelude.{nat_lt, ◌==◌, IsSomeAnd}
+use Rattle.std.specs.Prelude.{◌==◌, IsSomeAnd}
 use Rattle.std.specs.List.{AllByRecursion, filter}
 use Rattle.std.specs.Option.{option_map_or, option_map}
-use Rattle.std.proofs.Common.{◌≡◌, ℕ, zero, suc, ◌+◌, ◌*◌, ◌≤◌, ◌<◌, List, [], ◌∷◌, length, take, map, Option, Some, None, Bool, true, false, cond, if◌then◌else◌, slice_get, refl, sym, ap, ◌∙◌, subst, arith}
+use Rattle.std.proofs.Common.{◌≡◌, ℕ, zero, suc, ◌+◌, ◌≤◌, List, [], ◌∷◌, length, take, map, Option, Some, None, Bool, true, false, cond, if◌then◌else◌, slice_get, refl, sym, ap, ◌∙◌, subst, arith}
 use Rattle.t_base.specs.declared.shared_parts.OpInfo.{OpInfo}
 use Rattle.t_base.specs.declared.shared_parts.Global1.{Global1}
-use Rattle.program_runs.specs.Runs.{End, Observation, Run, IsPrefix, IsProper}
+use Rattle.program_runs.specs.Runs.{End, Observation, Run, IsProper}
 use Rattle.program_runs.specs.Follows.{after}
 use Rattle.program_runs.specs.Keeps.{Keeps}
 use Rattle.program_runs.proofs.Prefixes.{prefix_of_eq}
@@ -13,7 +13,7 @@ use Rattle.t_prim.specs.Values.{Val}
 use Rattle.cps_ir.specs.declared.terms.Term.{Term}
 use Rattle.cps_ir.specs.declared.terms.Cps.{Cps}
 use Rattle.cps_ir.specs.Terms.{moves_of}
-use Rattle.cps_ir.specs.States.{Marking, Program, marked, Scope, Closure, Handler, Control, At, Calling, Looking, Entering, Ended, State, going, faulted, counting, seen}
+use Rattle.cps_ir.specs.States.{Marking, Program, marked, Scope, Closure, Handler, Control, At, Calling, Looking, Entering, Ended, State, going, counting, seen}
 use Rattle.cps_ir.specs.Giving.{or_broken}
 use Rattle.cps_ir.specs.Calls.{defaulted, default_at, default_of, looked}
 use Rattle.cps_ir.specs.Running.{performed, advanced, step, start, first_closures, run}
@@ -25,7 +25,7 @@ use Rattle.cps_ir.proofs.Proper.{whole_ends_properly}
 use Rattle.assign_convert.specs.AssignedCells.{celled, AreCells}
 use Rattle.assign_convert.specs.CellLaws.{CellsKeep}
 use Rattle.assign_convert.proofs.Terms.{with_terms, at_place, no_more_moves, unassigned}
-use Rattle.assign_convert.proofs.Ruled.{Ruled, LamAt, Has, has, root_at, entry_ruled}
+use Rattle.assign_convert.proofs.Ruled.{Has, has, root_at, entry_ruled}
 use Rattle.assign_convert.proofs.Steps.{ScopeRuled, ClosureRuled, HandlersRuled, Kept, ControlRuled, lighter, Same, called_same, entered_same, performs}
 
 -- ---- steps

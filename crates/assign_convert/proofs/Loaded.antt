@@ -1,10 +1,8 @@
 -- The loads of a program and of the same with cells are equal.
 use Rattle.std.specs.Prelude.{IsSomeAnd, IsTrue, All, sum_by}
-use Rattle.std.specs.List.{AllByRecursion, filter_map, flat_map}
+use Rattle.std.specs.List.{AllByRecursion}
 use Rattle.std.specs.Option.{option_map, option_map_or}
-use Rattle.std.proofs.Common.{◌≡◌, ℕ, zero, suc, ◌+◌, ◌*◌, ◌≤◌, List, [], ◌∷◌, ◌++◌, length, map, Option, Some, None, Bool, true, false, ◌||◌, if◌then◌else◌, slice_get, refl, sym, ap, ◌∙◌, subst, arith}
-use Rattle.t_base.specs.declared.basics.Var.{Var}
-use Rattle.cps_ir.specs.declared.args.Arg.{Arg}
+use Rattle.std.proofs.Common.{◌≡◌, ℕ, zero, suc, ◌+◌, ◌*◌, ◌≤◌, List, [], ◌∷◌, ◌++◌, map, Option, Some, None, Bool, true, false, ◌||◌, if◌then◌else◌, slice_get, refl, sym, ap, ◌∙◌, subst, arith}
 use Rattle.cps_ir.specs.declared.args.Arg.TheVariants as Argument
 use Rattle.cps_ir.specs.declared.terms.Cont.{Cont}
 use Rattle.cps_ir.specs.declared.terms.Cont.TheVariants as Continuation
@@ -13,16 +11,15 @@ use Rattle.cps_ir.specs.declared.terms.Term.{Term}
 use Rattle.cps_ir.specs.declared.terms.Term.TheVariants as Node
 use Rattle.cps_ir.specs.declared.terms.Cps.{Cps}
 use Rattle.cps_ir.specs.Terms.{args_of, cont_of}
-use Rattle.cps_ir.specs.Parts.{walked, root_lams, reached_lams, reached_terms, first_lams, lam_binders, arg_variables, is_assigned, Part, procs_of, lambdas_of, own_binders, parts_of, depth_of}
-use Rattle.cps_ir.specs.Reaches.{is_in, free_at, labels_of}
-use Rattle.cps_ir.specs.Loads.{Bulk, is_closed, term_count, term_room, lam_room, room_of, args_count, bulk_of, HasLoads,  opened_at, occurring, opened, one_if, kind_weight, proc_weight, label_weight, cont_param, escape_of, open_weight, params_weight, term_weight, sum_within, sum_at, term_load, lam_load, AssignsAlone}
-use Rattle.cps_ir.proofs.ProperLists.{each_append, each_left, each_right, each_more, each_of_all, each_of, each_of_two}
+use Rattle.cps_ir.specs.Parts.{walked, root_lams, reached_lams, reached_terms, lam_binders, arg_variables, is_assigned, lambdas_of, own_binders, parts_of, depth_of}
+use Rattle.cps_ir.specs.Reaches.{is_in, labels_of}
+use Rattle.cps_ir.specs.Loads.{is_closed, term_count, term_room, lam_room, room_of, HasLoads, occurring, opened, one_if, label_weight, cont_param, escape_of, open_weight, params_weight, term_weight, sum_within, sum_at, term_load, lam_load, AssignsAlone}
+use Rattle.cps_ir.proofs.ProperLists.{each_more, each_of_all, each_of, each_of_two}
 use Rattle.cps_ir.proofs.Closed.{all_of_each}
 use Rattle.assign_convert.specs.AssignedCells.{celled}
-use Rattle.assign_convert.proofs.Terms.{with_terms}
-use Rattle.assign_convert.proofs.Ruled.{LamAlone, Alone, RuledWithin, Ruled, LamRuled}
+use Rattle.assign_convert.proofs.Ruled.{Alone, RuledWithin, Ruled, LamRuled}
 use Rattle.assign_convert.proofs.Steps.{IsFree}
-use Rattle.assign_convert.proofs.Shapes.{StaysCont, StaysArg, Stays, of_celled, Shape, shape_of, shapes_of, sum_shapes, sum_same, b, f, none, walked_same, reached_same, lams_same, place, depth_same, shapes_same, closed_same, opened_at_same, occurring_same, opened_same}
+use Rattle.assign_convert.proofs.Shapes.{StaysCont, Stays, of_celled, shapes_of, sum_shapes, sum_same, b, f, none, walked_same, place, depth_same, shapes_same, closed_same, opened_at_same, occurring_same, opened_same}
 
 module _ (a d : Cps) (terms : d.terms.items ≡ map (celled (is_assigned a)) a.terms.items) where
   abbrev after : Cps

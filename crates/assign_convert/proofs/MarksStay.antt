@@ -1,34 +1,30 @@
 -- With cells the marks of LAMBDAs stay, and so do those of the variables that aren't assigned.
-use Rattle.std.specs.Prelude.{IsTrue, All, zip, nat_lt}
+use Rattle.std.specs.Prelude.{zip}
 use Rattle.std.specs.List.{AllByRecursion, filter_map, flat_map, cons_option, list_any, enumerate_from}
-use Rattle.std.specs.Option.{option_map, option_map_or}
-use Rattle.std.proofs.Common.{◌≡◌, ℕ, zero, suc, ◌+◌, ◌≤◌, ◌==◌, Bool, true, false, if◌then◌else◌, List, [], ◌∷◌, ◌++◌, length, map, take, drop, slice_get, Option, Some, None, refl, sym, ap, ◌∙◌, subst, arith, le_trans}
+use Rattle.std.specs.Option.{option_map}
+use Rattle.std.proofs.Common.{◌≡◌, ℕ, ◌+◌, ◌==◌, Bool, false, List, [], ◌∷◌, ◌++◌, map, Option, Some, None, refl, sym, ap, ◌∙◌, subst}
 use Rattle.std.proofs.lemmas.List.Folds.{flat_map-map}
 use Rattle.std.proofs.lemmas.List.Elements.{filter_map-append}
 use Rattle.t_base.specs.declared.basics.Var.{Var}
 use Rattle.escape_marks.specs.Subjects.{Subject, Lambda, Local, Global, is_in}
-use Rattle.escape_marks.specs.Facts.{Role, Operator, Operand, ValueOf, Assigned, Other, Occurrence, Abstraction}
+use Rattle.escape_marks.specs.Facts.{Role, Operator, ValueOf, Assigned, Other, Occurrence, Abstraction}
 use Rattle.escape_marks.specs.Inventories.{Inventory, facts_from}
 use Rattle.escape_marks.specs.Rules.{marks_of}
-use Rattle.program_runs.specs.Keeps.{Keeps}
 use Rattle.cps_ir.specs.declared.args.Arg.{Arg}
-use Rattle.cps_ir.specs.declared.args.Arg.TheVariants as Argument
 use Rattle.cps_ir.specs.declared.terms.Cont.{Cont}
 use Rattle.cps_ir.specs.declared.terms.Cont.TheVariants as Continuation
 use Rattle.cps_ir.specs.declared.terms.Lam.{Lam}
 use Rattle.cps_ir.specs.declared.terms.Term.{Term}
 use Rattle.cps_ir.specs.declared.terms.Term.TheVariants as Node
 use Rattle.cps_ir.specs.declared.terms.Cps.{Cps}
-use Rattle.cps_ir.specs.Terms.{args_of}
-use Rattle.cps_ir.specs.Parts.{is_assigned, first_lams, named, variable_of, procs_of, lams_of, lambda_at, lambdas_of, root_lams, reached_terms, reached_lams, own_binders, lam_binders, is_tail}
-use Rattle.cps_ir.specs.Reaches.{free_in, free_in_lams, methods_of}
-use Rattle.cps_ir.specs.Loads.{AssignsAlone}
-use Rattle.cps_ir.specs.MarkFacts.{lambda, variable, occurrence, name_of, subject_of, operand_role, operand_roles, arg_roles, occurrence_of, named_occurrences, occurrences_in, procedure_globals, root_occurrences, abstraction_of, lambda_places, abstractions_in, root_abstractions, method_frees, names_in, params_of, inventory_of, facts_of, escaping, marked_lams, marked_vars}
-use Rattle.cps_ir.proofs.ProperLists.{each_append, each_left, each_more, each_of_all, each_of, each_joined}
+use Rattle.cps_ir.specs.Parts.{is_assigned, named, variable_of, procs_of, lambda_at, lambdas_of, root_lams, reached_terms, own_binders, lam_binders, is_tail}
+use Rattle.cps_ir.specs.Reaches.{free_in_lams, methods_of}
+use Rattle.cps_ir.specs.MarkFacts.{lambda, variable, occurrence, name_of, subject_of, operand_roles, arg_roles, occurrence_of, occurrences_in, procedure_globals, root_occurrences, abstraction_of, lambda_places, abstractions_in, root_abstractions, method_frees, names_in, params_of, inventory_of, escaping, marked_lams, marked_vars}
+use Rattle.cps_ir.proofs.ProperLists.{each_append, each_left, each_more, each_of_all, each_joined}
 use Rattle.assign_convert.specs.AssignedCells.{celled}
 use Rattle.assign_convert.proofs.Ruled.{LamAlone, Alone}
 use Rattle.assign_convert.proofs.Steps.{IsFree}
-use Rattle.assign_convert.proofs.Shapes.{StaysCont, StaysArg, Stays, of_celled, b, f, reached_same, joined_same, lams_same, free_in_same}
+use Rattle.assign_convert.proofs.Shapes.{of_celled, b, f, reached_same, joined_same, lams_same, free_in_same}
 use Rattle.assign_convert.proofs.Wholes.{stays_own, lams_free_same, methods_same}
 use Rattle.assign_convert.proofs.Unmarked.{IsApart, lambda_apart, global_apart, local_apart, ValueApart, Fewer, none_fewer, same_fewer, one_fewer, joined_fewer, AbstractionApart, fewer_in, marks_same}
 

@@ -1,25 +1,24 @@
 -- Each assigned variable of a program has one Cell in the same with cells: it is bound once, by a Give.
-use Rattle.std.specs.Prelude.{nat_lt, IsTrue, All, filter}
+use Rattle.std.specs.Prelude.{filter}
 use Rattle.std.specs.List.{AllByRecursion, filter_map, flat_map, cons_option, list_any}
 use Rattle.std.specs.Option.{option_map_or}
-use Rattle.std.proofs.Common.{◌≡◌, ℕ, zero, suc, ◌+◌, ◌≤◌, ◌<◌, ◌==◌, ◌||◌, ◌⊎◌, inl, inr, ⊎_elim, Bool, true, false, cond, if◌then◌else◌, List, [], ◌∷◌, ◌++◌, length, map, slice_get, Option, Some, None, refl, sym, ap, ◌∙◌, subst, arith}
+use Rattle.std.proofs.Common.{◌≡◌, ℕ, zero, suc, ◌+◌, ◌==◌, ◌||◌, ◌⊎◌, inl, inr, ⊎_elim, Bool, true, false, cond, List, [], ◌∷◌, ◌++◌, length, map, slice_get, Option, Some, None, refl, sym, ap, ◌∙◌, subst, arith}
 use Rattle.std.proofs.lemmas.Bool.{eqb-true, true≢false, false≢true}
 use Rattle.std.proofs.lemmas.List.Folds.{list_any-append}
 use Rattle.std.proofs.lemmas.List.Elements.{filter_map-append}
-use Rattle.t_base.specs.declared.basics.Var.{Var}
 use Rattle.cps_ir.specs.declared.terms.Cont.{Cont}
 use Rattle.cps_ir.specs.declared.terms.Cont.TheVariants as Continuation
 use Rattle.cps_ir.specs.declared.terms.Lam.{Lam}
 use Rattle.cps_ir.specs.declared.terms.Term.{Term}
 use Rattle.cps_ir.specs.declared.terms.Term.TheVariants as Node
 use Rattle.cps_ir.specs.declared.terms.Cps.{Cps}
-use Rattle.cps_ir.specs.Parts.{assigns, is_assigned, named, variable_of, Name, OwnK, Part, lambda_part, parts_of, own_parts, lambdas_of, around, root_lams, root_parts, depth_of, walked, walked_within, reached_terms, reached_lams, own_binders, lam_binders, binders, arg_variables, cont_variable, used_by}
+use Rattle.cps_ir.specs.Parts.{assigns, is_assigned, Part, lambda_part, parts_of, own_parts, lambdas_of, around, root_lams, depth_of, walked_within, reached_terms, reached_lams, own_binders, lam_binders, binders, arg_variables, cont_variable, used_by}
 use Rattle.cps_ir.specs.Reaches.{is_in, without, binds_of, free_within, free_at, free_in}
-use Rattle.cps_ir.specs.Loads.{one_if, AssignsAlone, HasLoads}
+use Rattle.cps_ir.specs.Loads.{one_if, HasLoads}
 use Rattle.cps_ir.specs.Whole.{IsWhole}
-use Rattle.cps_ir.proofs.ProperLists.{each_append, each_left, each_right, each_more, each_of_two, each_of_all, none_some}
-use Rattle.cps_ir.proofs.Closed.{or_left, or_right, whole_is_closed}
-use Rattle.cps_ir.proofs.Apart.{any_left, any_right, any_or, inside, distinct_of}
+use Rattle.cps_ir.proofs.ProperLists.{each_append, each_left, each_right, each_more, each_of_all}
+use Rattle.cps_ir.proofs.Closed.{or_left, whole_is_closed}
+use Rattle.cps_ir.proofs.Apart.{any_left, any_right, inside, distinct_of}
 use Rattle.cps_ir.proofs.Inside.{in_without, around_own, lam_bound}
 use Rattle.cps_ir.proofs.Counts.{tot, count, count_in, distinct_count, tot_append}
 use Rattle.assign_convert.specs.AssignedCells.{celled}

@@ -1,10 +1,9 @@
 -- What the rule on assigned variables says of a term and of all that it is made of.
-use Rattle.std.specs.Prelude.{nat_lt, All, IsSomeAnd}
-use Rattle.std.specs.List.{AllByRecursion, filter, filter_map, flat_map, cons_option, list_any}
+use Rattle.std.specs.Prelude.{nat_lt, IsSomeAnd}
+use Rattle.std.specs.List.{AllByRecursion, filter_map, flat_map, cons_option, list_any}
 use Rattle.std.specs.Option.{option_map_or}
-use Rattle.std.proofs.Common.{◌≡◌, ℕ, zero, suc, ◌<◌, List, [], ◌∷◌, ◌++◌, length, take, map, Option, Some, None, Bool, true, false, if◌then◌else◌, slice_get, refl, sym, ap, ◌∙◌, subst, arith, le_trans}
+use Rattle.std.proofs.Common.{◌≡◌, ℕ, zero, suc, ◌<◌, List, [], ◌∷◌, ◌++◌, take, map, Option, Some, None, Bool, true, false, if◌then◌else◌, slice_get, refl, sym, ◌∙◌, subst}
 use Rattle.std.proofs.lemmas.Bool.{ltb-true}
-use Rattle.t_base.specs.declared.basics.Var.{Var}
 use Rattle.cps_ir.specs.declared.terms.Lam.{Lam}
 use Rattle.cps_ir.specs.declared.terms.Term.{Term}
 use Rattle.cps_ir.specs.declared.terms.Term.TheVariants as Node
@@ -13,7 +12,7 @@ use Rattle.cps_ir.specs.Terms.{cont_of}
 use Rattle.cps_ir.specs.Parts.{first_lams, assigns, is_assigned, Name, Part, behind, term_parts, cont_parts, own_parts, lams_of, lambda_at, lambdas_of, around, lambda_part, parts_of, root_lams, root_parts, depth_of, walked, walked_within, reached_terms, reached_lams, lam_binders}
 use Rattle.cps_ir.specs.Loads.{Unassigned, AssignsAlone, HasLoads}
 use Rattle.cps_ir.specs.Whole.{UsesVariables, HoldsWithin, IsFormed}
-use Rattle.cps_ir.proofs.ProperLists.{some_same, none_some, all_at, each_append, each_left, each_right, each_more, each_of_all, each_unjoined, each_joined, each_taken, there_below}
+use Rattle.cps_ir.proofs.ProperLists.{some_same, none_some, each_left, each_right, each_more, each_of_all, each_joined, each_taken}
 use Rattle.cps_ir.proofs.Closed.{parts_same, or_left, or_right, same_number}
 
 -- ---- terms

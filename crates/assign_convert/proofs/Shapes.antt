@@ -1,8 +1,8 @@
 -- A program and the same with cells are made of the same parts: what is reached, what is free in a term, and the loads are equal.
-use Rattle.std.specs.Prelude.{IsSomeAnd, sum_by}
+use Rattle.std.specs.Prelude.{sum_by}
 use Rattle.std.specs.List.{AllByRecursion, filter_map, flat_map, cons_option}
 use Rattle.std.specs.Option.{option_map, option_map_or}
-use Rattle.std.proofs.Common.{◌≡◌, ℕ, zero, suc, ◌+◌, ◌*◌, ◌≤◌, List, [], ◌∷◌, ◌++◌, length, map, Option, Some, None, Bool, true, false, ◌||◌, if◌then◌else◌, slice_get, refl, sym, ap, ◌∙◌, subst, arith}
+use Rattle.std.proofs.Common.{◌≡◌, ℕ, zero, suc, ◌+◌, List, [], ◌∷◌, ◌++◌, length, map, Option, Some, None, Bool, true, false, if◌then◌else◌, slice_get, refl, sym, ap, ◌∙◌}
 use Rattle.std.proofs.lemmas.List.{length-map, map-append}
 use Rattle.std.proofs.lemmas.List.Folds.{flat_map-map}
 use Rattle.t_base.specs.declared.basics.Var.{Var}
@@ -14,15 +14,12 @@ use Rattle.cps_ir.specs.declared.terms.Lam.{Lam}
 use Rattle.cps_ir.specs.declared.terms.Term.{Term}
 use Rattle.cps_ir.specs.declared.terms.Term.TheVariants as Node
 use Rattle.cps_ir.specs.declared.terms.Cps.{Cps}
-use Rattle.cps_ir.specs.Terms.{args_of, cont_of}
-use Rattle.cps_ir.specs.Parts.{is_assigned, Name, Named, Celled, Part, procs_of, lambdas_of, lams_of, around, lambda_part, own_parts, cont_parts, parts_of, root_lams, root_parts, depth_of, walked, walked_within, reached_terms, reached_lams, own_binders, lam_binders, binders, used_by}
-use Rattle.cps_ir.specs.Reaches.{is_in, without, binds_of, free_within, free_at, free_in, labels_of}
-use Rattle.cps_ir.specs.Loads.{is_empty, is_closed, binds_assigned, makes_location, opened_within, opened_at, occurring, opened, one_if, kind_weight, proc_weight, label_weight, cont_param, escape_of, open_weight, params_weight, term_weight, sum_within, sum_at, term_load, lam_load}
-use Rattle.cps_ir.proofs.ProperLists.{each_append, each_left, each_right, each_more, each_of_all, each_of}
+use Rattle.cps_ir.specs.Parts.{is_assigned, Named, Celled, Part, lambdas_of, lambda_part, parts_of, root_lams, root_parts, depth_of, walked, walked_within, reached_terms, reached_lams, own_binders, lam_binders, binders, used_by}
+use Rattle.cps_ir.specs.Reaches.{without, binds_of, free_within, free_at, free_in}
+use Rattle.cps_ir.specs.Loads.{is_empty, is_closed, binds_assigned, makes_location, opened_within, opened_at, occurring, opened}
 use Rattle.cps_ir.proofs.Counts.{tot, sum_tot, tot_same}
 use Rattle.assign_convert.specs.AssignedCells.{read, given, celled}
 use Rattle.assign_convert.proofs.Terms.{with_terms, at_place, unassigned}
-use Rattle.assign_convert.proofs.Ruled.{LamAlone, Alone, RuledWithin}
 
 -- ---- terms in turn
 

@@ -1,31 +1,26 @@
 -- What follows where the assigned variables of a program became cells, in one.
-use Rattle.std.specs.Prelude.{All, filter, sum_by}
+use Rattle.std.specs.Prelude.{All, filter}
 use Rattle.std.specs.List.{AllByRecursion, filter_map, list_any, cons_option}
-use Rattle.std.proofs.Common.{◌≡◌, ℕ, zero, suc, ◌+◌, ◌≤◌, Bool, true, false, ◌||◌, List, [], ◌∷◌, length, map, get_or, Option, Some, None, slice_get, refl, sym, ap, ◌∙◌, subst, arith}
+use Rattle.std.proofs.Common.{◌≡◌, ℕ, zero, suc, ◌≤◌, Bool, true, false, ◌||◌, List, [], ◌∷◌, length, map, get_or, Option, Some, None, slice_get, refl, sym, ap, ◌∙◌, subst, arith}
 use Rattle.std.proofs.lemmas.List.Elements.{All-map}
-use Rattle.t_base.specs.declared.basics.Var.{Var}
-use Rattle.cps_ir.specs.declared.args.Arg.{Arg}
-use Rattle.cps_ir.specs.declared.args.Arg.TheVariants as Argument
-use Rattle.cps_ir.specs.declared.terms.Cont.{Cont}
-use Rattle.cps_ir.specs.declared.terms.Cont.TheVariants as Continuation
 use Rattle.cps_ir.specs.declared.terms.Term.{Term}
 use Rattle.cps_ir.specs.declared.terms.Term.TheVariants as Node
 use Rattle.cps_ir.specs.declared.terms.Cps.{Cps}
 use Rattle.cps_ir.specs.Parts.{assigns, is_assigned, walked, root_lams, reached_terms}
 use Rattle.cps_ir.specs.MarkFacts.{marked_lams, marked_vars, run_marked}
 use Rattle.cps_ir.specs.Whole.{IsWhole}
-use Rattle.cps_ir.specs.Loads.{HasLoads, term_load, lam_load, args_count, bulk_of}
+use Rattle.cps_ir.specs.Loads.{HasLoads, term_load, lam_load, args_count}
 use Rattle.cps_ir.proofs.ProperLists.{each_more, each_of_all}
 use Rattle.cps_ir.proofs.Closed.{all_of_each}
 use Rattle.cps_ir.proofs.Dearer.{marks_change_heap_alone}
 use Rattle.cps_ir.proofs.Proper.{whole_ends_properly}
-use Rattle.cps_ir.proofs.Counts.{tot, sum_tot, tot_le}
+use Rattle.cps_ir.proofs.Counts.{tot, sum_tot}
 use Rattle.assign_convert.specs.AssignedCells.{celled, AreCells}
-use Rattle.assign_convert.specs.CellLaws.{makes_cell, is_set, is_catch, is_outer, has_outer, Without, HasSameLoads, HasNoMoreBulk, IsCellForm, CellsAreSound}
+use Rattle.assign_convert.specs.CellLaws.{makes_cell, is_set, is_catch, has_outer, Without, HasSameLoads, HasNoMoreBulk, CellsAreSound}
 use Rattle.assign_convert.proofs.Terms.{with_terms}
 use Rattle.assign_convert.proofs.Ruled.{Ruled, LamAlone, LamRuled, reached_alone, walked_ruled, lams_of_roots}
 use Rattle.assign_convert.proofs.Kept.{IsNoMore, no_more_keeps, same_parts, cells_no_more, cells_keep}
-use Rattle.assign_convert.proofs.Shapes.{StaysCont, StaysArg, Stays, of_celled, count_same, walked_same}
+use Rattle.assign_convert.proofs.Shapes.{Stays, of_celled, count_same, walked_same}
 use Rattle.assign_convert.proofs.Loaded.{load_same, lam_load_same, room_same, loads_after}
 use Rattle.assign_convert.proofs.Wholes.{whole_after}
 use Rattle.assign_convert.proofs.MarksStay.{lams_marked_same, vars_marked_same}

@@ -1,15 +1,12 @@
 -- A program and the same with cells, step for step: their states are equal but for the moves.
-use Rattle.std.specs.Prelude.{nat_lt, ◌==◌, All, IsSomeAnd, sum_by}
-use Rattle.std.specs.List.{AllByRecursion, filter_map, filter, flat_map, cons_option}
-use Rattle.std.specs.Option.{option_map_or, option_map}
-use Rattle.std.proofs.Common.{◌≡◌, ℕ, zero, suc, ◌+◌, ◌≤◌, ◌<◌, List, [], ◌∷◌, ◌++◌, length, take, map, Option, Some, None, option_and_then, Bool, true, false, cond, if◌then◌else◌, slice_get, refl, sym, ap, ◌∙◌, subst, arith}
+use Rattle.std.specs.Prelude.{◌==◌, sum_by}
+use Rattle.std.specs.List.{AllByRecursion, filter_map, flat_map, cons_option}
+use Rattle.std.specs.Option.{option_map_or}
+use Rattle.std.proofs.Common.{◌≡◌, ℕ, zero, suc, ◌≤◌, List, [], ◌∷◌, ◌++◌, length, map, Option, Some, None, option_and_then, Bool, true, false, if◌then◌else◌, slice_get, refl, subst}
 use Rattle.std.proofs.lemmas.Bool.{true≢false, false≢true}
 use Rattle.t_base.specs.declared.basics.Var.{Var}
 use Rattle.t_base.specs.declared.faults.Fault.{Fault}
 use Rattle.t_base.specs.declared.faults.Fault.TheVariants.{WrongCount}
-use Rattle.t_base.specs.declared.shared_parts.OpInfo.{OpInfo}
-use Rattle.t_base.specs.declared.shared_parts.Global1.{Global1}
-use Rattle.program_runs.specs.Follows.{after}
 use Rattle.t_prim.specs.Kinds.{is_nil}
 use Rattle.t_prim.specs.Values.{Val, FixV, CharV, NilV, TrueV, SymbolV, StringV, PairV, VectorV, ClosureV, ObjectV, OperationV, BuiltinV, EscapeV}
 use Rattle.t_prim.specs.Operands.{Row, Gives, Changes, Faults}
@@ -22,17 +19,16 @@ use Rattle.cps_ir.specs.declared.terms.Lam.{Lam}
 use Rattle.cps_ir.specs.declared.terms.Term.{Term}
 use Rattle.cps_ir.specs.declared.terms.Term.TheVariants as Node
 use Rattle.cps_ir.specs.declared.terms.Cps.{Cps}
-use Rattle.cps_ir.specs.Terms.{moves_of, args_of, cont_of}
-use Rattle.cps_ir.specs.States.{Marking, Program, marked, Meant, Direct, Bound, Joined, Begun, Scope, Closure, Handler, Object, Pending, Waiting, Back, Live, Control, At, Calling, Looking, Entering, Ended, State, going, broken, faulted, counting, taking, with_store, with_waiting, with_location, with_location_at, with_closures, with_object, with_global_at, with_catch}
+use Rattle.cps_ir.specs.States.{Marking, Program, marked, Meant, Direct, Bound, Joined, Begun, Scope, Closure, Handler, Object, Pending, Waiting, Back, Live, Control, At, Calling, Looking, Entering, Ended, State, going, broken, faulted, taking, with_store, with_waiting, with_location, with_location_at, with_closures, with_global_at, with_catch}
 use Rattle.cps_ir.specs.Giving.{or_broken, or_unbound, with_global, provided, lam_words, with_variable, with_place, meant_by, value_of, location_of, with_arg, with_args, located, binding, binding_all, Way, Out, On, Lost, way, way_of, resumed, returned, given, give, pushing, after_row, closing}
-use Rattle.cps_ir.specs.Calls.{begun, entered, handlers_at, operated, defaulted, default_at, default_of, looked, unwound, escaped, escape, called}
-use Rattle.cps_ir.specs.Running.{new_closures, closures_of, handlers_of, opening, closing_catch, performed, advanced, step, start, first_closures}
-use Rattle.cps_ir.specs.Parts.{global_lams, first_lams, is_procedure, is_assigned, variable_of, named, Part, cont_parts, own_binders, proc_of, lams_of}
-use Rattle.cps_ir.specs.Loads.{Unassigned, AssignsAlone}
-use Rattle.cps_ir.proofs.ProperLists.{some_same, none_some, each_append, each_left, each_right, each_of_all, fewer_before}
+use Rattle.cps_ir.specs.Calls.{begun, entered, handlers_at, operated, unwound, escaped, escape, called}
+use Rattle.cps_ir.specs.Running.{new_closures, closures_of, handlers_of, opening, closing_catch, performed}
+use Rattle.cps_ir.specs.Parts.{is_assigned, variable_of, named, cont_parts, own_binders, proc_of}
+use Rattle.cps_ir.specs.Loads.{Unassigned}
+use Rattle.cps_ir.proofs.ProperLists.{some_same, none_some, each_append, each_left, each_right, each_of_all}
 use Rattle.assign_convert.specs.AssignedCells.{read, given as given_cell, celled}
-use Rattle.assign_convert.proofs.Terms.{with_terms, at_place, no_more_moves}
-use Rattle.assign_convert.proofs.Ruled.{LamAlone, Ruled, LamRuled, LamAt, Has, has}
+use Rattle.assign_convert.proofs.Terms.{with_terms}
+use Rattle.assign_convert.proofs.Ruled.{Ruled, LamRuled, LamAt, Has}
 
 -- ---- what is ruled
 

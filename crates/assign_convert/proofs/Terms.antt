@@ -1,7 +1,6 @@
 -- The terms that stand in a program's place for it with cells: none is a Set, and so no variable is assigned.
-use Rattle.std.specs.Prelude.{sum_by}
 use Rattle.std.specs.List.{filter_map, cons_option, list_any}
-use Rattle.std.proofs.Common.{◌≡◌, ℕ, zero, suc, ◌+◌, ◌≤◌, ◌==◌, List, [], ◌∷◌, ◌++◌, length, map, Option, Some, None, Bool, true, false, if◌then◌else◌, ◌||◌, slice_get, refl, sym, ap, ◌∙◌, subst, arith}
+use Rattle.std.proofs.Common.{◌≡◌, ℕ, zero, suc, ◌≤◌, List, [], ◌∷◌, map, Option, Some, None, Bool, true, false, if◌then◌else◌, ◌||◌, slice_get, refl, sym, ap, ◌∙◌, subst, arith}
 use Rattle.std.specs.Option.{option_map}
 use Rattle.t_base.specs.declared.basics.Var.{Var}
 use Rattle.cps_ir.specs.declared.args.Arg.{Arg}
@@ -12,7 +11,7 @@ use Rattle.cps_ir.specs.declared.terms.Term.{Term}
 use Rattle.cps_ir.specs.declared.terms.Term.TheVariants as Node
 use Rattle.cps_ir.specs.declared.terms.Cps.{Cps}
 use Rattle.cps_ir.specs.Terms.{moves_of}
-use Rattle.cps_ir.specs.Parts.{assigns, is_assigned, walked, reached_terms}
+use Rattle.cps_ir.specs.Parts.{assigns, is_assigned, walked}
 use Rattle.assign_convert.specs.AssignedCells.{read, given, celled}
 
 -- a program with the terms of another one

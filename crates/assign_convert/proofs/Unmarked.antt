@@ -1,20 +1,20 @@
 -- The marks of LAMBDAs, and of every variable that isn't assigned, are those of the argument: an assigned variable loses its own mark, on
 -- which no other one hangs.
-use Rattle.std.specs.List.{AllByRecursion, filter_map, flat_map, cons_option, list_any, enumerate_from}
-use Rattle.std.specs.Option.{option_map, option_map_or}
-use Rattle.std.specs.Prelude.{filter, zip}
-use Rattle.std.proofs.Common.{◌≡◌, ℕ, zero, suc, ◌+◌, ◌==◌, ◌&&◌, ◌||◌, Bool, true, false, not, cond, if◌then◌else◌, List, [], ◌∷◌, ◌++◌, length, map, slice_get, Option, Some, None, refl, sym, ap, ◌∙◌, subst}
+use Rattle.std.specs.List.{AllByRecursion, flat_map, list_any}
+use Rattle.std.specs.Option.{option_map_or}
+use Rattle.std.specs.Prelude.{filter}
+use Rattle.std.proofs.Common.{◌≡◌, ℕ, zero, suc, ◌==◌, ◌&&◌, ◌||◌, Bool, true, false, not, cond, if◌then◌else◌, List, [], ◌∷◌, ◌++◌, length, map, slice_get, refl, sym, ap, ◌∙◌, subst}
 use Rattle.std.proofs.lemmas.Bool.{eqb-true, true≢false}
-use Rattle.std.proofs.lemmas.List.Folds.{list_any-append, flat_map-map}
+use Rattle.std.proofs.lemmas.List.Folds.{list_any-append}
 use Rattle.std.proofs.lemmas.Grind.{flat_map-append}
 use Rattle.t_base.specs.declared.basics.Var.{Var}
 use Rattle.escape_marks.specs.Subjects.{Subject, Lambda, Local, Global, is_same, is_lambda, is_in, MarkSet}
-use Rattle.escape_marks.specs.Rounds.{Rule, repeated}
+use Rattle.escape_marks.specs.Rounds.{repeated}
 use Rattle.escape_marks.specs.Facts.{Role, Operator, Operand, ValueOf, Assigned, Other, Occurrence, Abstraction, Known, Reach, Facts, stands_as, is_known}
 use Rattle.escape_marks.specs.Rules.{keeps_operand, keeps_lambda, keeps_name, escapes_by_a_rule, marks, marks_of}
 use Rattle.escape_marks.specs.Inventories.{Inventory, is_assignment, known_by, known_names, reached_from, facts_from}
 use Rattle.escape_marks.proofs.RoundLemmas.{same_is}
-use Rattle.cps_ir.proofs.ProperLists.{each_append, each_left, each_right, each_more, each_of, each_joined}
+use Rattle.cps_ir.proofs.ProperLists.{each_append, each_more, each_of, each_joined}
 
 -- ---- lists
 
@@ -161,11 +161,11 @@ module _ (assigned : ℕ → Bool) where
           let by_place = ap (λ b. is_lambda s && b) (fewer.stands (λ r. not (keeps_lambda (lesser facts less) n r)) s h ∙ stands_same facts.occurrences (λ r. not (keeps_lambda (lesser facts less) n r)) (λ r. not (keeps_lambda facts m r)) s (λ r. ap not (lambda_same r))) in
           let by_use = ap (λ b. not (is_lambda s) && b) (fewer.stands (λ r. not (keeps_name (lesser facts less) n s r)) s h ∙ stands_same facts.occurrences (λ r. not (keeps_name (lesser facts less) n s r)) (λ r. not (keeps_name facts m s r)) s (λ r. ap not (name_same s r))) in
           let by_reach = ap (λ b. is_in facts.params s && (list_any (λ reached. is_in reached s) facts.methods || b))
-                  (any_same (λ l. n l.lambda && is_in l.reached s) (λ l. m l.lambda && is_in l.reached s) facts.lambdas
-                  (each_more (λ l. IsApart l.lambda) (λ l. (n l.lambda && is_in l.reached s) ≡ (m l.lambda && is_in l.reached s)) facts.lambdas (λ l k. ap (λ b. b && is_in l.reached s) (agree l.lambda k)) lambdas)) in
+          (any_same (λ l. n l.lambda && is_in l.reached s) (λ l. m l.lambda && is_in l.reached s) facts.lambdas
+          (each_more (λ l. IsApart l.lambda) (λ l. (n l.lambda && is_in l.reached s) ≡ (m l.lambda && is_in l.reached s)) facts.lambdas (λ l k. ap (λ b. b && is_in l.reached s) (agree l.lambda k)) lambdas)) in
           let by_name = ap (λ b. is_lambda s && b)
-                  (any_same (λ k. is_same s k.abstraction.lambda && n k.name) (λ k. is_same s k.abstraction.lambda && m k.name) facts.known
-                  (each_more KnownApart (λ k. (is_same s k.abstraction.lambda && n k.name) ≡ (is_same s k.abstraction.lambda && m k.name)) facts.known (λ k j. ap (λ b. is_same s k.abstraction.lambda && b) (agree k.name j.0)) known)) in
+          (any_same (λ k. is_same s k.abstraction.lambda && n k.name) (λ k. is_same s k.abstraction.lambda && m k.name) facts.known
+          (each_more KnownApart (λ k. (is_same s k.abstraction.lambda && n k.name) ≡ (is_same s k.abstraction.lambda && m k.name)) facts.known (λ k j. ap (λ b. is_same s k.abstraction.lambda && b) (agree k.name j.0)) known)) in
           four by_place by_use by_reach by_name
         where
           four : {a b c d a' b' c' d' : Bool} → a ≡ a' → b ≡ b' → c ≡ c' → d ≡ d' → (a || b || c || d) ≡ (a' || b' || c' || d')

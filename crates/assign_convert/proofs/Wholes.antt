@@ -1,6 +1,6 @@
 -- A whole program within the rule gives a whole one with cells.
-use Rattle.std.specs.Prelude.{◌≢◌, IsSomeAnd, IsTrue, All, AllPairs, Contains, sum_by}
-use Rattle.std.specs.List.{AllByRecursion, filter_map, flat_map}
+use Rattle.std.specs.Prelude.{◌≢◌, IsSomeAnd, All, AllPairs, Contains, sum_by}
+use Rattle.std.specs.List.{AllByRecursion}
 use Rattle.std.specs.Option.{option_map, option_map_or}
 use Rattle.std.proofs.Common.{◌≡◌, ℕ, zero, suc, ◌+◌, ◌*◌, ◌≤◌, ◌<◌, ◌==◌, List, [], ◌∷◌, ◌++◌, length, map, zip, get_or, Option, Some, None, Bool, true, false, if◌then◌else◌, slice_get, refl, sym, ap, ◌∙◌, subst, arith}
 use Rattle.std.proofs.lemmas.List.{map-append}
@@ -18,14 +18,13 @@ use Rattle.cps_ir.specs.Terms.{args_of, cont_of}
 use Rattle.cps_ir.specs.Parts.{is_assigned, Name, Named, Celled, JoinK, OwnK, named, variable_of, Part, behind, cont_parts, own_parts, procs_of, lambdas_of, around, lambda_part, parts_of, root_lams, root_parts, depth_of, walked, reached_terms, reached_lams, own_binders, lam_binders, binders, arg_variables, cont_variable}
 use Rattle.cps_ir.specs.Reaches.{is_in, without, binds_of, free_at, free_in, free_in_lams, Known, known_by, known_of, reached_within, reached_from, labels_of, words_of, term_reach, lam_reach, methods_of, methods_reach, Fits}
 use Rattle.cps_ir.specs.Loads.{AssignsAlone, HasLoads}
-use Rattle.cps_ir.specs.Whole.{HasNames, HasPlaces, HoldsWithin, HoldsOfEach, PlaceIsBound, UsesVariables, HasScopes, IsShaped, HasShapes, open_at, EndsACatch, LeadsOn, HasWays, IsFormed, IsWhole}
-use Rattle.cps_ir.proofs.ProperLists.{all_head, each_append, each_left, each_right, each_more, each_of_two, each_of_all, each_of, each_unjoined}
+use Rattle.cps_ir.specs.Whole.{HasNames, HoldsWithin, HoldsOfEach, PlaceIsBound, UsesVariables, IsShaped, open_at, LeadsOn, IsFormed, IsWhole}
+use Rattle.cps_ir.proofs.ProperLists.{all_head, each_append, each_left, each_more, each_of_two, each_of_all, each_of, each_unjoined}
 use Rattle.cps_ir.proofs.Closed.{parts_same, all_of_each}
 use Rattle.assign_convert.specs.AssignedCells.{celled}
-use Rattle.assign_convert.proofs.Terms.{with_terms}
-use Rattle.assign_convert.proofs.Ruled.{LamAlone, Alone, RuledWithin, Ruled, LamRuled, roots_ruled, lams_of_roots}
+use Rattle.assign_convert.proofs.Ruled.{LamAlone, Alone, RuledWithin, LamRuled, roots_ruled, lams_of_roots}
 use Rattle.assign_convert.proofs.Steps.{IsFree}
-use Rattle.assign_convert.proofs.Shapes.{StaysCont, StaysArg, Stays, of_celled, sum_same, b, f, none, place, count_same, depth_same, walked_same, reached_same, joined_same, lams_same, binders_same, free_same, free_in_same}
+use Rattle.assign_convert.proofs.Shapes.{StaysCont, StaysArg, Stays, of_celled, sum_same, b, f, place, count_same, depth_same, walked_same, reached_same, joined_same, lams_same, binders_same, free_same, free_in_same}
 
 -- all items of no list
 all_none : {X : Type 0} (P : X → Type 0) → All P []

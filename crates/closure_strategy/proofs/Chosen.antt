@@ -1,16 +1,16 @@
 -- What the loops of the choice keep, and what holds of each plan.
 use Rattle.std.specs.Prelude.{nat_lt, IsSomeAnd}
-use Rattle.std.specs.List.{AllByRecursion, filter_map, flat_map, list_any, cons_option}
-use Rattle.std.proofs.Common.{◌≡◌, ℕ, zero, suc, ◌+◌, ◌<◌, ◌≤◌, ◌==◌, Bool, true, false, ◌||◌, if◌then◌else◌, List, [], ◌∷◌, ◌++◌, length, take, map, get_or, slice_get, Option, Some, None, refl, sym, ap, ◌∙◌, subst, arith, ◌⊎◌, inl, inr, ⊎_elim}
+use Rattle.std.specs.List.{AllByRecursion, filter_map, flat_map, cons_option}
+use Rattle.std.proofs.Common.{◌≡◌, ℕ, zero, suc, ◌+◌, ◌<◌, ◌≤◌, ◌==◌, Bool, true, false, ◌||◌, if◌then◌else◌, List, [], ◌∷◌, ◌++◌, length, take, map, get_or, slice_get, Some, refl, sym, ap, ◌∙◌, subst, arith, ◌⊎◌, inl, inr, ⊎_elim}
 use Rattle.std.proofs.lemmas.Bool.{ltb-true, ltb-false}
-use Rattle.std.proofs.lemmas.List.{take_more, take_all}
+use Rattle.std.proofs.lemmas.List.{take_more}
 use Rattle.std.proofs.lemmas.List.Elements.{filter_map-append}
 use Rattle.std.proofs.lemmas.List.Folds.{list_any-append}
 use Rattle.std.proofs.lemmas.Grind.{flat_map-append}
 use Rattle.cps_ir.specs.declared.terms.Lam.{Lam}
 use Rattle.cps_ir.specs.declared.terms.Term.{Term}
 use Rattle.cps_ir.specs.declared.terms.Cps.{Cps}
-use Rattle.cps_ir.specs.Parts.{first_lams, root_lams, reached_terms}
+use Rattle.cps_ir.specs.Parts.{first_lams, root_lams}
 use Rattle.cps_ir.specs.Reaches.{is_in, free_in, methods_of}
 use Rattle.cps_ir.specs.Whole.{IsWhole}
 use Rattle.cps_ir.proofs.ProperLists.{some_same, none_some, each_of_all, each_taken, there_below}
@@ -20,7 +20,7 @@ use Rattle.cps_walk.proofs.MarkLemmas.{or_nothing}
 use Rattle.closure_strategy.specs.declared.plans.Strategy.{Strategy}
 use Rattle.closure_strategy.specs.declared.plans.Strategy.TheVariants.{Label, Heap, Static}
 use Rattle.closure_strategy.specs.declared.plans.Plan.{Plan}
-use Rattle.closure_strategy.specs.Plans.{chosen, is_method, strategy_of, IsPlan, HasNoneFree, IsSound, PlansAreSound}
+use Rattle.closure_strategy.specs.Plans.{chosen, is_method, IsPlan, IsSound, PlansAreSound}
 
 -- ---- marks
 

@@ -1,5 +1,5 @@
 -- Plans: where the closure of each procedure is kept.
-use Rattle.std.specs.Prelude.{◌≡◌, ℕ, ◌<◌, nat_lt, Bool, if◌then◌else◌, List, [], length, Some, IsSomeAnd, slice_get}
+use Rattle.std.specs.Prelude.{◌≡◌, ℕ, ◌<◌, nat_lt, Bool, if◌then◌else◌, [], length, Some, IsSomeAnd, slice_get}
 use Rattle.std.specs.List.{flat_map}
 use Rattle.cps_ir.specs.declared.terms.Cps.{Cps}
 use Rattle.cps_ir.specs.Parts.{first_lams, reached_terms}

@@ -1,11 +1,11 @@
 -- What the rules mark is a procedure of the program, or a variable below a count that is above all binders.
-use Rattle.std.specs.Prelude.{nat_lt, All, IsTrue, replicate}
+use Rattle.std.specs.Prelude.{nat_lt, All, replicate}
 use Rattle.std.specs.List.{AllByRecursion, filter_map, flat_map, cons_option, list_any, enumerate_from}
 use Rattle.std.specs.Option.{option_map}
-use Rattle.std.proofs.Common.{◌≡◌, ℕ, zero, suc, ◌+◌, ◌<◌, ◌≤◌, ◌==◌, ◌&&◌, ◌||◌, Bool, true, false, if◌then◌else◌, List, [], ◌∷◌, ◌++◌, length, take, map, slice_get, Option, Some, None, refl, sym, ap, ◌∙◌, subst, arith}
+use Rattle.std.proofs.Common.{◌≡◌, ℕ, zero, suc, ◌+◌, ◌<◌, ◌≤◌, Bool, true, false, if◌then◌else◌, List, [], ◌∷◌, ◌++◌, length, take, map, slice_get, Option, Some, None, refl, ap, ◌∙◌, arith}
 use Rattle.std.proofs.lemmas.Bool.{eqb-true, false≢true}
 use Rattle.t_base.specs.declared.basics.Var.{Var}
-use Rattle.escape_marks.specs.Subjects.{Subject, Lambda, Local, Global, is_same, is_in}
+use Rattle.escape_marks.specs.Subjects.{Subject, Local, Global, is_same, is_in}
 use Rattle.escape_marks.specs.Facts.{Abstraction}
 use Rattle.cps_ir.specs.declared.terms.Cont.{Cont}
 use Rattle.cps_ir.specs.declared.terms.Cont.TheVariants as Continuation
@@ -17,7 +17,7 @@ use Rattle.cps_ir.specs.Parts.{first_lams, Name, Named, Celled, JoinK, OwnK, nam
 use Rattle.cps_ir.specs.Whole.{IsWhole}
 use Rattle.cps_ir.specs.Loads.{cont_param}
 use Rattle.cps_ir.specs.MarkFacts.{lambda, variable, abstraction_of, lambda_places, abstractions_in, root_abstractions, name_bound, names_in, params_of, procedure_globals, facts_of, marked_lams, marked_vars}
-use Rattle.cps_ir.proofs.ProperLists.{some_same, none_some, each_append, each_left, each_more, each_of_all, each_joined, each_at, each_of}
+use Rattle.cps_ir.proofs.ProperLists.{none_some, each_append, each_more, each_of_all, each_joined, each_at, each_of}
 use Rattle.cps_ir.proofs.Apart.{any_or}
 use Rattle.cps_ir.proofs.MarkLaws.{only_reached_escape}
 use Rattle.cps_known.specs.declared.marking.Marks.{Marks}
@@ -193,7 +193,7 @@ module _ (cps : Cps) where
     marked_below terms lams x e =
         let below_lams = each_more (λ (lam : Lam). All (λ v. v.0 < count) lam.params) LamBelow cps.lams.items (λ lam h. each_of_all (λ v. v.0 < count) lam.params h) lams in
         let reached = each_append LamBelow (root_lams cps) (flat_map (lambdas_of cps) (reached_terms cps)) (taken_lams (first_lams cps) cps.lams.items below_lams)
-                (each_joined (lambdas_of cps) LamBelow (reached_terms cps) (each_of (λ t. AllByRecursion LamBelow (lambdas_of cps t)) (reached_terms cps) (λ t. found_lams (lams_of t) below_lams))) in
+        (each_joined (lambdas_of cps) LamBelow (reached_terms cps) (each_of (λ t. AllByRecursion LamBelow (lambdas_of cps t)) (reached_terms cps) (λ t. found_lams (lams_of t) below_lams))) in
         found (λ s. x < count) (facts_of cps).subjects (variable x)
         (each_append (VarFits x) (map (λ y. y.lambda) (root_abstractions cps ++ flat_map (abstractions_in cps) (reached_terms cps))) (flat_map names_in (reached_terms cps) ++ map Local (params_of cps) ++ map Global (procedure_globals cps))
         (lambdas_no_variable x (root_abstractions cps ++ flat_map (abstractions_in cps) (reached_terms cps))

@@ -7,4 +7,4 @@ mod liveness;
 mod marking;
 
 pub use crate::liveness::Live;
-pub use crate::marking::{escapes, Marks};
+pub use crate::marking::{Marks, escapes};

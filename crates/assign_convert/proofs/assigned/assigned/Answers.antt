@@ -1,5 +1,5 @@
 use Rattle.std.specs.Prelude.{All}
-use Rattle.std.proofs.Common.{◌∙◌, ◌≡◌, ◌<◌, ◌||◌, length, take, sym, ap, subst, arith}
+use Rattle.std.proofs.Common.{◌∙◌, ◌<◌, ◌||◌, length, sym, ap, subst}
 use Rattle.cps_ir.specs.Parts.{assigns}
 use Rattle.cps_walk.specs.Marked.{is_marked}
 use Rattle.assign_convert.proofs.Marks.{assigned_in, assigned_more, taken_all}

@@ -1,4 +1,4 @@
-use Rattle.std.proofs.Common.{◌≡◌, ◌∙◌, ap, sym, arith, rules}
+use Rattle.std.proofs.Common.{◌≡◌, ◌∙◌, ap, rules}
 use Rattle.cps_ir.specs.Parts.{first_lams}
 use Rattle.cps_walk.specs.Marked.{is_marked}
 use Rattle.closure_strategy.specs.Plans.{chosen, is_method, strategy_of}

@@ -1,4 +1,3 @@
-use Rattle.cps_ir.specs.Parts.{first_lams}
 use Rattle.closure_strategy.specs.Plans.{strategy_of}
 use Rattle.closure_strategy.proofs.Chosen.{IsMade}
 use Rattle.closure_strategy.proofs.choice.choose.Given as goal

@@ -1,5 +1,5 @@
 use Rattle.std.specs.Prelude.{All}
-use Rattle.std.proofs.Common.{◌∙◌, ◌≡◌, ◌<◌, ◌||◌, length, take, sym, ap, subst, arith}
+use Rattle.std.proofs.Common.{◌∙◌, ◌<◌, ◌||◌, length, sym, ap, subst}
 use Rattle.std.proofs.lemmas.List.{take_all}
 use Rattle.cps_ir.specs.Reaches.{is_in, methods_of}
 use Rattle.cps_walk.specs.Marked.{is_marked}

@@ -1,5 +1,5 @@
 use Rattle.std.specs.Prelude.{All}
-use Rattle.std.proofs.Common.{◌<◌, ◌≤◌, take}
+use Rattle.std.proofs.Common.{◌≤◌, take}
 use Rattle.cps_known.specs.Binders.{value_binders, AreBelow}
 use Rattle.cps_known.proofs.binders.above_terms.Given as goal
 
