@@ -1,0 +1,5 @@
+pub mod Links
+pub mod Contexts
+pub mod Laid
+pub mod Related
+pub mod Laws

@@ -1,0 +1,107 @@
+-- Where a run of a program and a run of its frames stand alike: things by identity and address, records that never change, and what waits
+-- against the live frames.
+use Rattle.std.specs.Prelude.{◌≡◌, ℕ, ◌≤◌, true, false, List, [], ◌∷◌, map, Option, Some, None, slice_get}
+use Rattle.std.specs.List.{AllZip}
+use Rattle.program_runs.specs.Runs.{End}
+use Rattle.t_prim.specs.Values.{Val, ClosureV}
+use Rattle.cps_ir.specs.declared.terms.Cps.{Cps}
+use Rattle.cps_ir.specs.States.{Meant, Binding, Bound, Joined, Begun, Scope, Closure, Pending, Waiting, Back, Live, Control, At, Calling, Looking, Entering, Ended, State}
+use Rattle.cps_ir.specs.Giving.{meant_by}
+use Rattle.frame_ir.specs.declared.forms.FrameOp.{FrameOp}
+use Rattle.frame_ir.specs.declared.forms.FrameEnd.{FrameEnd}
+use Rattle.frame_ir.specs.Values.{Value, Lasting, Frame, Env, value_at, Closure as FrameClosure}
+use Rattle.frame_ir.specs.States.{Doing, Running, Calling as CallingAt, Looking as LookingAt, Entering as EnteringAt, end_of, State as FrameState}
+use Rattle.frame_ir.specs.Arguments.{code_of_global}
+use Rattle.layout_relation.specs.Links.{IsIn, Zipped, SameOption, IsTied, Links, AreOneToOne, SameVal, SameMeant, SameList, SameStore}
+use Rattle.layout_relation.specs.Contexts.{Meeting, Exits, NoExit, OwnExit, JoinExit, IsUnneeded, Context, Catching, Return, CodeOf, Resumes}
+use Rattle.layout_relation.specs.Laid.{Sketch, IsFor, Lays}
+
+-- ---- scopes
+
+-- the continuations of the scope are those that are known, and what is bound behind a Join isn't needed there
+pub data Leads : Scope → Exits → Type 0 where
+  leads_none : (scope : Scope) → Leads scope NoExit
+  leads_own : (k : ℕ) (scope : Scope) → Leads (Begun k ∷ scope) (OwnExit k)
+  leads_join : (m : Meeting) (scope : Scope) (rest : Exits) → Leads scope rest → Leads (Joined m.k m.param m.body ∷ scope) (JoinExit m rest)
+  leads_bound : (x : ℕ) (meant : Meant) (scope : Scope) (exits : Exits) → IsUnneeded exits x → Leads scope exits → Leads (Bound x meant ∷ scope) exits
+
+-- a variable, and that of the frames that holds what it stands for
+pub record Holds (links : Links) (scope : Scope) (env : Env) (x y : ℕ) : Type 0 where
+  pub meant : Meant
+  pub value : Value
+  pub is : meant_by scope x ≡ Some meant
+  pub at : value_at env y ≡ Some value
+  pub same : SameMeant links meant value
+
+abbrev pub HoldAll : Links → Scope → Env → List (ℕ × ℕ) → Type 0
+HoldAll links scope env vars = (x y : ℕ) → IsIn (x, y) vars → Holds links scope env x y
+
+-- a variable, and a value that was captured or kept of it
+pub record IsCaptured (links : Links) (scope : Scope) (x : ℕ) (v : Value) : Type 0 where
+  pub meant : Meant
+  pub is : meant_by scope x ≡ Some meant
+  pub same : SameMeant links meant v
+
+abbrev pub AreCaptured : Links → Scope → List ℕ → List Value → Type 0
+AreCaptured links scope xs vs = Zipped (IsCaptured links scope) xs vs
+
+-- ---- records
+
+-- a closure, and the record at its address: the code of its procedure, and what this needs
+pub record SameClosure (w : Sketch) (links : Links) (c : Closure) (r : FrameClosure) : Type 0 where
+  pub runs : IsFor w r.code (CodeOf c.lam)
+  pub captured : AreCaptured links c.scope (w.needs c.lam) r.captured
+
+pub record ClosuresAt (w : Sketch) (links : Links) (cs : List Closure) (rs : List FrameClosure) (i j : ℕ) : Type 0 where
+  pub left : Closure
+  pub right : FrameClosure
+  pub is : slice_get cs i ≡ Some left
+  pub at : slice_get rs j ≡ Some right
+  pub same : SameClosure w links left right
+
+-- ---- what waits
+
+-- a continuation, and the frame that keeps what it needs
+pub record SameFrame (w : Sketch) (links : Links) (frames : List Frame) (pending : Pending) (birth : ℕ) (r : Return) : Type 0 where
+  pub frame : Frame
+  pub is : slice_get frames birth ≡ Some frame
+  pub push : frame.catch ≡ false
+  pub back : IsFor w frame.back (Resumes r)
+  pub param : pending.param ≡ r.param
+  pub body : pending.body ≡ r.body
+  pub leads : Leads pending.scope r.exits
+  pub kept : AreCaptured links pending.scope r.kept frame.kept
+
+-- under the open CATCHes of the running procedure, item by item
+pub data Waits (w : Sketch) (links : Links) (frames : List Frame) : List Catching → List Waiting → List ℕ → Type 0 where
+  waits_none : Waits w links frames [] [] []
+  waits_back : (pending : Pending) (waiting : List Waiting) (birth : ℕ) (older : List ℕ) (r : Return) → SameFrame w links frames pending birth r → Waits w links frames r.catches waiting older
+      → Waits w links frames [] (Back pending ∷ waiting) (birth ∷ older)
+
+-- ---- states
+
+-- what was made so far
+pub record SameMade (cps : Cps) (w : Sketch) (links : Links) (s : State) (t : FrameState) : Type 0 where
+  pub one : AreOneToOne links
+  pub store : SameStore links s.store t.store
+  pub closures : (i j : ℕ) → IsTied links.closures i j → ClosuresAt w links s.closures t.closures i j
+  pub globals : AllZip (SameOption (SameVal links)) s.globals t.globals
+  -- the procedures of globals stay
+  pub procedures : (g code : ℕ) → code_of_global cps.shared g ≡ Some code → (slice_get s.globals g ≡ Some (Some (ClosureV code))) × IsTied links.closures code code
+
+-- what is done next
+pub data SameDoing (cps : Cps) (w : Sketch) (links : Links) (frames : List Frame) (waiting : List Waiting) (live : List ℕ) : Control → Doing → Type 0 where
+  same_term : (c : Context) (t : ℕ) (scope : Scope) (ops : List FrameOp) (last : FrameEnd) (env : Env) → Lays cps w c t ops last → HoldAll links scope env c.vars → Leads scope c.exits
+      → Waits w links frames c.catches waiting live → SameDoing cps w links frames waiting live (At t scope) (Running ops last env)
+  same_call : (f g : Val) (xs ys : List Val) → SameVal links f g → Zipped (SameVal links) xs ys → Waits w links frames [] waiting live
+      → SameDoing cps w links frames waiting live (Calling f xs) (CallingAt (Lasting g) ys)
+  same_look : (o : ℕ) (xs ys : List Val) → Zipped (SameVal links) xs ys → Waits w links frames [] waiting live
+      → SameDoing cps w links frames waiting live (Looking o [] xs) (LookingAt o [] ys)
+  same_entry : (c : Closure) (code : ℕ) (self : Val) (xs ys : List Val) → IsFor w code (CodeOf c.lam) → w.needs c.lam ≡ [] → Zipped (SameVal links) xs ys → Waits w links frames [] waiting live
+      → SameDoing cps w links frames waiting live (Entering c xs) (EnteringAt code (Lasting self ∷ map Lasting ys))
+  same_end : (e : End) (doing : Doing) → end_of doing ≡ Some e → SameDoing cps w links frames waiting live (Ended e) doing
+
+pub record Related (cps : Cps) (w : Sketch) (s : State) (t : FrameState) : Type 0 where
+  pub links : Links
+  pub made : SameMade cps w links s t
+  pub doing : SameDoing cps w links t.frames s.waiting t.live s.control t.doing
