@@ -1,5 +1,5 @@
 -- Members of lists, and lists whose items are related one by one.
-use Rattle.std.proofs.Common.{◌≡◌, ℕ, zero, suc, ◌+◌, ◌<◌, ◌≤◌, nat_eq, ◌==◌, Bool, true, false, ◌||◌, List, [], ◌∷◌, ◌++◌, length, map, replicate, slice_get, slice_set, Option, Some, None, refl, sym, ap, subst, ◌∙◌, arith, ◌⊎◌, inl, inr}
+use Rattle.std.proofs.Common.{◌≡◌, ℕ, zero, suc, ◌+◌, ◌<◌, ◌≤◌, nat_eq, ◌==◌, Bool, true, false, ◌||◌, List, [], ◌∷◌, ◌++◌, length, map, replicate, slice_get, slice_set, Option, Some, None, refl, sym, ap, subst, ◌∙◌, arith, ◌⊎◌, inl, inr, ⊎_elim}
 use Rattle.std.specs.List.{AllZip, AllByRecursion, list_any}
 use Rattle.std.proofs.lemmas.Bool.{eq-eqb, ne_eqb, eqb-true, eqb-false, true≢false}
 use Rattle.cps_ir.specs.Reaches.{is_in}
@@ -92,6 +92,24 @@ pub in_left : {X : Type 0} (x : X) (xs ys : List X) → IsIn x xs → IsIn x (xs
 in_left x xs ys (first a ms) = first a (ms ++ ys)
 in_left x xs ys (later a b ms h) = later a b (ms ++ ys) (in_left a ms ys h)
 
+pub in_cases : {X : Type 0} (p x : X) (xs : List X) → IsIn p (x ∷ xs) → (p ≡ x) ⊎ IsIn p xs
+in_cases p x xs (first q qs) = inl refl
+in_cases p x xs (later q r qs h) = inr h
+
+pub in_none : {X : Type 0} (p : X) → IsIn p [] → ⊥
+in_none p h = by p [] h refl
+  where
+    by : {X : Type 0} (p : X) (xs : List X) → IsIn p xs → xs ≡ [] → ⊥
+    by p xs (first q qs) e = cc
+    by p xs (later q r qs h) e = cc
+
+pub in_either : {X : Type 0} (p : X) (xs ys : List X) → IsIn p (xs ++ ys) → IsIn p xs ⊎ IsIn p ys
+in_either p [] ys h = inr h
+in_either p (x ∷ xs) ys h = ⊎_elim
+    (λ e. inl (subst (λ q. IsIn q (x ∷ xs)) (sym e) (first x xs)))
+    (λ k. ⊎_elim (λ a. inl (later p x xs a)) (λ b. inr b) (in_either p xs ys k))
+    (in_cases p x (xs ++ ys) h)
+
 pub all_in : {X : Type 0} (P : X → Type 0) (xs : List X) (x : X) → AllByRecursion P xs → IsIn x xs → P x
 all_in P xs x h (first a ms) = h.0
 all_in P xs x h (later a b ms k) = all_in P ms a h.1 k
@@ -106,6 +124,11 @@ get_front (a ∷ xs) ys (suc i) x h = get_front xs ys i x h
 pub get_behind : {A : Type 0} (xs ys : List A) (i : ℕ) → slice_get (xs ++ ys) (length xs + i) ≡ slice_get ys i
 get_behind [] ys i = let e : 0 + i ≡ i = omega arith in ap (slice_get ys) e
 get_behind (x ∷ xs) ys i = let e : length (x ∷ xs) + i ≡ suc (length xs + i) = omega arith in ap (slice_get (x ∷ xs ++ ys)) e ∙ get_behind xs ys i
+
+pub some_at : {X : Type 0} (xs : List X) (i : ℕ) → i < length xs → (x : X) × (slice_get xs i ≡ Some x)
+some_at [] i lt = absurd (omega (arith, lt))
+some_at (x ∷ xs) zero lt = (x, refl)
+some_at (x ∷ xs) (suc i) lt = some_at xs i (omega (arith, lt))
 
 -- ---- numbers in lists
 

@@ -1,0 +1,71 @@
+-- What is the same stays the same when more is tied and more frames are pushed.
+use Rattle.std.proofs.Common.{◌≡◌, ℕ, List, [], ◌∷◌, Some, Option, slice_get}
+use Rattle.std.specs.List.{AllZip}
+use Rattle.t_prim.specs.Values.{Val, Store}
+use Rattle.cps_ir.specs.States.{Meant, Scope, Closure, Pending, Waiting}
+use Rattle.frame_ir.specs.Values.{Value, Frame, Env, Closure as FrameClosure}
+use Rattle.layout_relation.specs.Links.{Zipped, SameOption, neither, both, Links, Extends, SameVal, fix, char, nil, truth, symbol, string, pair, vector, closure, object, operation, builtin, escape, SameMeant, value, cell, SamePair, SameList, SameStore}
+use Rattle.layout_relation.specs.Contexts.{Catching, Return}
+use Rattle.layout_relation.specs.Laid.{Sketch}
+use Rattle.layout_relation.specs.Related.{HoldAll, IsCaptured, AreCaptured, SameClosure, SameFrame, Waits, waits_none, waits_back}
+use Rattle.layout_relation.proofs.Lists.{all_zip_more, zipped_more}
+
+module _ (old new : Links) (more : Extends old new) where
+  pub val_grows : (a b : Val) → SameVal old a b → SameVal new a b
+  val_grows a b (fix z) = fix z
+  val_grows a b (char c) = char c
+  val_grows a b nil = nil
+  val_grows a b truth = truth
+  val_grows a b (symbol n) = symbol n
+  val_grows a b (string t) = string t
+  val_grows a b (pair k) = pair k
+  val_grows a b (vector k) = vector k
+  val_grows a b (closure i j h) = closure i j (more.closures i j h)
+  val_grows a b (object i j h) = object i j (more.objects i j h)
+  val_grows a b (operation o) = operation o
+  val_grows a b (builtin p) = builtin p
+  val_grows a b (escape i j h) = escape i j (more.escapes i j h)
+
+  pub meant_grows : (m : Meant) (v : Value) → SameMeant old m v → SameMeant new m v
+  meant_grows m v (value a b h) = value a b (val_grows a b h)
+  meant_grows m v (cell i j h) = cell i j (more.cells i j h)
+
+  pub vals_grow : (xs ys : List Val) → Zipped (SameVal old) xs ys → Zipped (SameVal new) xs ys
+  vals_grow xs ys h = zipped_more (SameVal old) (SameVal new) val_grows xs ys h
+
+  pub store_grows : (s t : Store) → SameStore old s t → SameStore new s t
+  store_grows s t h = record {
+    names = h.names;
+    strings = h.strings;
+    pairs = all_zip_more (SamePair old) (SamePair new) (λ p q k. record { head = val_grows p.0 q.0 k.head; tail = val_grows p.1 q.1 k.tail }) s.pairs t.pairs h.pairs;
+    vectors = all_zip_more (SameList old) (SameList new) (λ p q k. all_zip_more (SameVal old) (SameVal new) val_grows p q k) s.vectors t.vectors h.vectors;
+    output = h.output;
+    heap = h.heap;
+  }
+
+  option_grows : (o p : Option Val) → SameOption (SameVal old) o p → SameOption (SameVal new) o p
+  option_grows o p neither = neither
+  option_grows o p (both x y h) = both x y (val_grows x y h)
+
+  pub globals_grow : (xs ys : List (Option Val)) → AllZip (SameOption (SameVal old)) xs ys → AllZip (SameOption (SameVal new)) xs ys
+  globals_grow xs ys h = all_zip_more (SameOption (SameVal old)) (SameOption (SameVal new)) option_grows xs ys h
+
+  pub hold_grows : (scope : Scope) (env : Env) (vars : List (ℕ × ℕ)) → HoldAll old scope env vars → HoldAll new scope env vars
+  hold_grows scope env vars h x y i = let k = h x y i in record { meant = k.meant; value = k.value; is = k.is; at = k.at; same = meant_grows k.meant k.value k.same }
+
+  pub captured_grows : (scope : Scope) (xs : List ℕ) (vs : List Value) → AreCaptured old scope xs vs → AreCaptured new scope xs vs
+  captured_grows scope xs vs h = zipped_more (IsCaptured old scope) (IsCaptured new scope) (λ x v k. record { meant = k.meant; is = k.is; same = meant_grows k.meant v k.same }) xs vs h
+
+  pub closure_grows : (w : Sketch) (c : Closure) (r : FrameClosure) → SameClosure w old c r → SameClosure w new c r
+  closure_grows w c r h = record { runs = h.runs; captured = captured_grows c.scope (w.needs c.lam) r.captured h.captured }
+
+  pub waits_grow : (w : Sketch) (fs gs : List Frame) → ((i : ℕ) (f : Frame) → slice_get fs i ≡ Some f → slice_get gs i ≡ Some f)
+      → (cs : List Catching) (waiting : List Waiting) (live : List ℕ) → Waits w old fs cs waiting live → Waits w new gs cs waiting live
+  waits_grow w fs gs there cs waiting live waits_none = waits_none
+  waits_grow w fs gs there cs waiting live (waits_back pending rest birth older r f h) =
+      waits_back pending rest birth older r
+      (record { frame = f.frame; is = there birth f.frame f.is; push = f.push; back = f.back; param = f.param; body = f.body; leads = f.leads; kept = captured_grows pending.scope r.kept f.frame.kept f.kept })
+      (waits_grow w fs gs there r.catches rest older h)
+
+pub extends_itself : (links : Links) → Extends links links
+extends_itself links = record { closures = λ i j h. h; objects = λ i j h. h; escapes = λ i j h. h; cells = λ i j h. h }
