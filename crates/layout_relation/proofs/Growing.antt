@@ -1,5 +1,5 @@
 -- What is the same stays the same when more is tied and more frames are pushed.
-use Rattle.std.proofs.Common.{◌≡◌, ℕ, List, [], ◌∷◌, Some, Option, slice_get}
+use Rattle.std.proofs.Common.{◌≡◌, ℕ, Bool, List, [], ◌∷◌, Some, Option, slice_get}
 use Rattle.std.specs.List.{AllZip}
 use Rattle.t_prim.specs.Values.{Val, Store}
 use Rattle.cps_ir.specs.States.{Meant, Scope, Closure, Pending, Waiting}
@@ -26,9 +26,9 @@ module _ (old new : Links) (more : Extends old new) where
   val_grows a b (builtin p) = builtin p
   val_grows a b (escape i j h) = escape i j (more.escapes i j h)
 
-  pub meant_grows : (m : Meant) (v : Value) → SameMeant old m v → SameMeant new m v
-  meant_grows m v (value a b h) = value a b (val_grows a b h)
-  meant_grows m v (cell i j h) = cell i j (more.cells i j h)
+  pub meant_grows : (celled : Bool) (m : Meant) (v : Value) → SameMeant old celled m v → SameMeant new celled m v
+  meant_grows celled m v (value a b h) = value a b (val_grows a b h)
+  meant_grows celled m v (cell i j h) = cell i j (more.cells i j h)
 
   pub vals_grow : (xs ys : List Val) → Zipped (SameVal old) xs ys → Zipped (SameVal new) xs ys
   vals_grow xs ys h = zipped_more (SameVal old) (SameVal new) val_grows xs ys h
@@ -50,21 +50,21 @@ module _ (old new : Links) (more : Extends old new) where
   pub globals_grow : (xs ys : List (Option Val)) → AllZip (SameOption (SameVal old)) xs ys → AllZip (SameOption (SameVal new)) xs ys
   globals_grow xs ys h = all_zip_more (SameOption (SameVal old)) (SameOption (SameVal new)) option_grows xs ys h
 
-  pub hold_grows : (scope : Scope) (env : Env) (vars : List (ℕ × ℕ)) → HoldAll old scope env vars → HoldAll new scope env vars
-  hold_grows scope env vars h x y i = let k = h x y i in record { meant = k.meant; value = k.value; is = k.is; at = k.at; same = meant_grows k.meant k.value k.same }
+  pub hold_grows : (w : Sketch) (scope : Scope) (env : Env) (vars : List (ℕ × ℕ)) → HoldAll w old scope env vars → HoldAll w new scope env vars
+  hold_grows w scope env vars h x y i = let k = h x y i in record { meant = k.meant; value = k.value; is = k.is; at = k.at; same = meant_grows (w.celled x) k.meant k.value k.same }
 
-  pub captured_grows : (scope : Scope) (xs : List ℕ) (vs : List Value) → AreCaptured old scope xs vs → AreCaptured new scope xs vs
-  captured_grows scope xs vs h = zipped_more (IsCaptured old scope) (IsCaptured new scope) (λ x v k. record { meant = k.meant; is = k.is; same = meant_grows k.meant v k.same }) xs vs h
+  pub captured_grows : (w : Sketch) (scope : Scope) (xs : List ℕ) (vs : List Value) → AreCaptured w old scope xs vs → AreCaptured w new scope xs vs
+  captured_grows w scope xs vs h = zipped_more (IsCaptured w old scope) (IsCaptured w new scope) (λ x v k. record { meant = k.meant; is = k.is; same = meant_grows (w.celled x) k.meant v k.same }) xs vs h
 
   pub closure_grows : (w : Sketch) (c : Closure) (r : FrameClosure) → SameClosure w old c r → SameClosure w new c r
-  closure_grows w c r h = record { runs = h.runs; captured = captured_grows c.scope (w.needs c.lam) r.captured h.captured }
+  closure_grows w c r h = record { runs = h.runs; captured = captured_grows w c.scope (w.needs c.lam) r.captured h.captured }
 
   pub waits_grow : (w : Sketch) (fs gs : List Frame) → ((i : ℕ) (f : Frame) → slice_get fs i ≡ Some f → slice_get gs i ≡ Some f)
       → (cs : List Catching) (waiting : List Waiting) (live : List ℕ) → Waits w old fs cs waiting live → Waits w new gs cs waiting live
   waits_grow w fs gs there cs waiting live waits_none = waits_none
   waits_grow w fs gs there cs waiting live (waits_back pending rest birth older r f h) =
       waits_back pending rest birth older r
-      (record { frame = f.frame; is = there birth f.frame f.is; push = f.push; back = f.back; param = f.param; body = f.body; leads = f.leads; kept = captured_grows pending.scope r.kept f.frame.kept f.kept })
+      (record { frame = f.frame; is = there birth f.frame f.is; push = f.push; back = f.back; param = f.param; body = f.body; leads = f.leads; kept = captured_grows w pending.scope r.kept f.frame.kept f.kept })
       (waits_grow w fs gs there r.catches rest older h)
 
 pub extends_itself : (links : Links) → Extends links links

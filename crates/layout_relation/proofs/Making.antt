@@ -30,31 +30,31 @@ use Rattle.layout_relation.proofs.Made.{words_in, moves_in, Builds, Makes, makes
 
 -- ---- kept variables
 
-pub record Kept (links : Links) (scope : Scope) (env : Env) (xs : List ℕ) (kept : List Var) : Type 0 where
+pub record Kept (w : Sketch) (links : Links) (scope : Scope) (env : Env) (xs : List ℕ) (kept : List Var) : Type 0 where
   pub values : List Value
   pub are : kept_values env kept ≡ Some values
-  pub captured : AreCaptured links scope xs values
+  pub captured : AreCaptured w links scope xs values
   pub lasting : list_all is_lasting values ≡ true
   pub count : length values ≡ length kept
 
-meant_lasts : (links : Links) (m : Meant) (v : Value) → SameMeant links m v → is_lasting v ≡ true
-meant_lasts links m v (value a b h) = refl
-meant_lasts links m v (cell i j h) = refl
+meant_lasts : (links : Links) (celled : Bool) (m : Meant) (v : Value) → SameMeant links celled m v → is_lasting v ≡ true
+meant_lasts links celled m v (value a b h) = refl
+meant_lasts links celled m v (cell i j h) = refl
 
-kept_one : (links : Links) (scope : Scope) (env : Env) (x : ℕ) (y : Var) (xs : List ℕ) (ys : List Var) (v : Value) → value_at env y.0 ≡ Some v → IsCaptured links scope x v → Kept links scope env xs ys → Kept links scope env (x ∷ xs) (y ∷ ys)
-kept_one links scope env x y xs ys v e h k = record {
+kept_one : (w : Sketch) (links : Links) (scope : Scope) (env : Env) (x : ℕ) (y : Var) (xs : List ℕ) (ys : List Var) (v : Value) → value_at env y.0 ≡ Some v → IsCaptured w links scope x v → Kept w links scope env xs ys → Kept w links scope env (x ∷ xs) (y ∷ ys)
+kept_one w links scope env x y xs ys v e h k = record {
   values = v ∷ k.values;
   are = ap (λ o. option_and_then (λ u. option_map (λ us. u ∷ us) (kept_values env ys)) o) e ∙ ap (option_map (λ us. v ∷ us)) k.are;
   captured = zip_one x v xs k.values h k.captured;
-  lasting = ap (λ b. b && list_all is_lasting k.values) (meant_lasts links h.meant v h.same) ∙ k.lasting;
+  lasting = ap (λ b. b && list_all is_lasting k.values) (meant_lasts links (w.celled x) h.meant v h.same) ∙ k.lasting;
   count = ap suc k.count;
 }
 
-pub kept_all : (links : Links) (scope : Scope) (env : Env) (vars : List (ℕ × ℕ)) (xs : List ℕ) (kept : List Var) → HoldAll links scope env vars → AreHeld vars xs kept → Kept links scope env xs kept
-kept_all links scope env vars xs kept h zip_none = record { values = []; are = refl; captured = zip_none; lasting = refl; count = refl }
-kept_all links scope env vars xs kept h (zip_one x y us vs i rest) =
+pub kept_all : (w : Sketch) (links : Links) (scope : Scope) (env : Env) (vars : List (ℕ × ℕ)) (xs : List ℕ) (kept : List Var) → HoldAll w links scope env vars → AreHeld vars xs kept → Kept w links scope env xs kept
+kept_all w links scope env vars xs kept h zip_none = record { values = []; are = refl; captured = zip_none; lasting = refl; count = refl }
+kept_all w links scope env vars xs kept h (zip_one x y us vs i rest) =
     let k = h x y.0 i in
-    kept_one links scope env x y us vs k.value k.at (record { meant = k.meant; is = k.is; same = k.same }) (kept_all links scope env vars us vs h rest)
+    kept_one w links scope env x y us vs k.value k.at (record { meant = k.meant; is = k.is; same = k.same }) (kept_all w links scope env vars us vs h rest)
 
 -- ---- addresses
 
@@ -119,7 +119,7 @@ module _ (cps : Cps) (w : Sketch) (small : (l : ℕ) → length (w.needs l) ≤ 
     pub words : words_in records ≤ sum_by (lam_words P) lams
     pub moves : moves_in records ≤ length lams * (1 + cps.shared.size)
 
-  making_one : (links : Links) (scope : Scope) (env : Env) (vars : List (ℕ × ℕ)) (l : ℕ) (to : Var) (code : ℕ) (kept : List Var) (lams : List ℕ) (ops : List FrameOp) → MakesClosure cps w vars l to code kept ops → Kept links scope env (w.needs l) kept
+  making_one : (links : Links) (scope : Scope) (env : Env) (vars : List (ℕ × ℕ)) (l : ℕ) (to : Var) (code : ℕ) (kept : List Var) (lams : List ℕ) (ops : List FrameOp) → MakesClosure cps w vars l to code kept ops → Kept w links scope env (w.needs l) kept
       → Making links scope env lams ops → Making links scope env (l ∷ lams) (Op.Closure to code kept At.Heap ∷ ops)
   making_one links scope env vars l to code kept lams ops h k m =
       let r : FrameClosure = record { code = code; captured = k.values } in
@@ -135,7 +135,7 @@ module _ (cps : Cps) (w : Sketch) (small : (l : ℕ) → length (w.needs l) ≤ 
         moves = let c = m.moves in omega (arith, c, few);
       }
 
-  pub making : (links : Links) (scope : Scope) (env : Env) (vars : List (ℕ × ℕ)) (lams : List ℕ) (ops : List FrameOp) (tos : List Var) → HoldAll links scope env vars → Makes cps w vars lams ops tos → Making links scope env lams ops
+  pub making : (links : Links) (scope : Scope) (env : Env) (vars : List (ℕ × ℕ)) (lams : List ℕ) (ops : List FrameOp) (tos : List Var) → HoldAll w links scope env vars → Makes cps w vars lams ops tos → Making links scope env lams ops
   making links scope env vars lams ops tos h makes_none = record { records = []; same = zip_none; makes = λ t go. refl; words = omega arith; moves = omega arith }
   making links scope env vars lams ops tos h (makes_one l to code kept ls ms ts i rest) =
-      making_one links scope env vars l to code kept ls ms i (kept_all links scope env vars (w.needs l) kept h i.holds) (making links scope env vars ls ms ts h rest)
+      making_one links scope env vars l to code kept ls ms i (kept_all w links scope env vars (w.needs l) kept h i.holds) (making links scope env vars ls ms ts h rest)

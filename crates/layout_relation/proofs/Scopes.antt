@@ -12,7 +12,7 @@ use Rattle.frame_ir.specs.Values.{Value, Lasting, Env, value_at}
 use Rattle.frame_ir.specs.Arguments.{bound}
 use Rattle.layout_relation.specs.Links.{IsIn, first, later, Zipped, zip_none, zip_one, Links, SameVal, SameMeant, value}
 use Rattle.layout_relation.specs.Contexts.{Meeting, Exits, NoExit, OwnExit, JoinExit, Exit, Leaves, Meets, Nowhere, exit_of, IsUnneeded, Context, IsFresh, IsUnused, paired}
-use Rattle.layout_relation.specs.Laid.{numbers, AreDistinct, AreHeld}
+use Rattle.layout_relation.specs.Laid.{Sketch, numbers, AreDistinct, AreHeld}
 use Rattle.layout_relation.specs.Related.{Leads, leads_none, leads_own, leads_join, leads_bound, Holds, HoldAll, IsCaptured, AreCaptured}
 use Rattle.layout_relation.proofs.Lists.{all_in, is_in_head, in_is_not}
 
@@ -127,31 +127,31 @@ other_value y x v env e = ap (λ b. if b then Some v else value_at env x) e
 pub eqb_same : (x : ℕ) → (x == x) ≡ true
 eqb_same x = eq-eqb x x refl
 
-module _ (links : Links) where
+module _ (w : Sketch) (links : Links) where
   -- one variable more in the scope
-  pub hold_bound : (scope : Scope) (env : Env) (vars : List (ℕ × ℕ)) (x : ℕ) (meant : Meant) → AllByRecursion (λ p. (p.0 == x) ≡ false) vars → HoldAll links scope env vars → HoldAll links (Bound x meant ∷ scope) env vars
+  pub hold_bound : (scope : Scope) (env : Env) (vars : List (ℕ × ℕ)) (x : ℕ) (meant : Meant) → AllByRecursion (λ p. (p.0 == x) ≡ false) vars → HoldAll w links scope env vars → HoldAll w links (Bound x meant ∷ scope) env vars
   hold_bound scope env vars x meant fresh h a b i =
       let k = h a b i in
       record { meant = k.meant; value = k.value; is = other_meant x a meant scope (eqb_flip a x (all_in (λ p. (p.0 == x) ≡ false) vars (a, b) fresh i)) ∙ k.is; at = k.at; same = k.same }
 
   -- one variable of the frames more
-  pub hold_set : (scope : Scope) (env : Env) (vars : List (ℕ × ℕ)) (y : ℕ) (v : Value) → IsUnused vars y → HoldAll links scope env vars → HoldAll links scope ((y, v) ∷ env) vars
+  pub hold_set : (scope : Scope) (env : Env) (vars : List (ℕ × ℕ)) (y : ℕ) (v : Value) → IsUnused vars y → HoldAll w links scope env vars → HoldAll w links scope ((y, v) ∷ env) vars
   hold_set scope env vars y v unused h a b i =
       let k = h a b i in
       record { meant = k.meant; value = k.value; is = k.is; at = other_value y b v env (eqb_flip b y (all_in (λ p. (p.1 == y) ≡ false) vars (a, b) unused i)) ∙ k.at; same = k.same }
 
-  pub hold_more : (scope : Scope) (env : Env) (vars : List (ℕ × ℕ)) (x y : ℕ) → Holds links scope env x y → HoldAll links scope env vars → HoldAll links scope env ((x, y) ∷ vars)
+  pub hold_more : (scope : Scope) (env : Env) (vars : List (ℕ × ℕ)) (x y : ℕ) → Holds w links scope env x y → HoldAll w links scope env vars → HoldAll w links scope env ((x, y) ∷ vars)
   hold_more scope env vars x y new h a b i = by a b (x, y) vars i new h
     where
-      by : (a b : ℕ) (p : ℕ × ℕ) (vars : List (ℕ × ℕ)) → IsIn (a, b) (p ∷ vars) → Holds links scope env p.0 p.1 → HoldAll links scope env vars → Holds links scope env a b
+      by : (a b : ℕ) (p : ℕ × ℕ) (vars : List (ℕ × ℕ)) → IsIn (a, b) (p ∷ vars) → Holds w links scope env p.0 p.1 → HoldAll w links scope env vars → Holds w links scope env a b
       by a b p vars (first q qs) new h = new
       by a b p vars (later q r qs i) new h = h a b i
 
   -- what is held is captured
-  pub captures : (scope : Scope) (env : Env) (vars : List (ℕ × ℕ)) (x : ℕ) (y : ℕ) (v : Value) → HoldAll links scope env vars → IsIn (x, y) vars → value_at env y ≡ Some v → IsCaptured links scope x v
+  pub captures : (scope : Scope) (env : Env) (vars : List (ℕ × ℕ)) (x : ℕ) (y : ℕ) (v : Value) → HoldAll w links scope env vars → IsIn (x, y) vars → value_at env y ≡ Some v → IsCaptured w links scope x v
   captures scope env vars x y v h i e =
       let k = h x y i in
-      record { meant = k.meant; is = k.is; same = subst (λ u. SameMeant links k.meant u) (same_some k.value v (sym k.at ∙ e)) k.same }
+      record { meant = k.meant; is = k.is; same = subst (λ u. SameMeant links (w.celled x) k.meant u) (same_some k.value v (sym k.at ∙ e)) k.same }
     where
       same_some : (a b : Value) → Some a ≡ Some b → a ≡ b
       same_some a b h = cc

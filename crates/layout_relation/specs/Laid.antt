@@ -33,11 +33,12 @@ use Rattle.layout_relation.specs.Contexts.{Meeting, Exits, NoExit, OwnExit, Join
 
 -- ---- the whole layout
 
--- What each block is for; the variables that each procedure needs of the scope in which its closure is made; and a number for each term,
--- which falls from a term to one behind it where the block may do nothing between them.
+-- What each block is for; the variables that each procedure needs of the scope in which its closure is made; which variables are cells;
+-- and a number for each term, which falls from a term to one behind it where the block may do nothing between them.
 pub record Sketch : Type 0 where
   pub purposes : List Purpose
   pub needs : ℕ → List ℕ
+  pub celled : ℕ → Bool
   pub rank : ℕ → ℕ
 
 abbrev pub IsFor : Sketch → ℕ → Purpose → Type 0
@@ -59,8 +60,9 @@ AreHeld vars xs ys = Zipped (λ x y. IsIn (x, y.0) vars) xs ys
 abbrev pub variables : List Var → List FrameArg
 variables ys = map FrameArgument.Var ys
 
--- a variable that is bound where these are needed
-pub record IsNewIn (needs : List ℕ) (exits : Exits) (x : ℕ) : Type 0 where
+-- a variable that is bound to a value where these are needed
+pub record IsNewIn (w : Sketch) (needs : List ℕ) (exits : Exits) (x : ℕ) : Type 0 where
+  pub plain : w.celled x ≡ false
   pub apart : is_in needs x ≡ false
   pub unneeded : IsUnneeded exits x
 
@@ -99,17 +101,17 @@ StartsApart (op ∷ ops) = is_closure op ≡ false
 
 -- ---- arguments
 
-pub data SameArg (cps : Cps) (vars : List (ℕ × ℕ)) : Arg → FrameArg → Type 0 where
-  same_const : (k : Const) → SameArg cps vars (Argument.Const k) (FrameArgument.Const k)
-  same_var : (x y : Var) → IsIn (x.0, y.0) vars → SameArg cps vars (Argument.Var x) (FrameArgument.Var y)
-  same_global : (g code : ℕ) → code_of_global cps.shared g ≡ Some code → SameArg cps vars (Argument.Global g) (FrameArgument.Global g)
-  same_builtin : (b : Builtin) → SameArg cps vars (Argument.Builtin b) (FrameArgument.Builtin b)
-  same_op : (o : ℕ) → SameArg cps vars (Argument.Op o) (FrameArgument.Op o)
+pub data SameArg (cps : Cps) (w : Sketch) (vars : List (ℕ × ℕ)) : Arg → FrameArg → Type 0 where
+  same_const : (k : Const) → SameArg cps w vars (Argument.Const k) (FrameArgument.Const k)
+  same_var : (x y : Var) → IsIn (x.0, y.0) vars → w.celled x.0 ≡ false → SameArg cps w vars (Argument.Var x) (FrameArgument.Var y)
+  same_global : (g code : ℕ) → code_of_global cps.shared g ≡ Some code → SameArg cps w vars (Argument.Global g) (FrameArgument.Global g)
+  same_builtin : (b : Builtin) → SameArg cps w vars (Argument.Builtin b) (FrameArgument.Builtin b)
+  same_op : (o : ℕ) → SameArg cps w vars (Argument.Op o) (FrameArgument.Op o)
 
 -- arguments, with the closures that are made for them
 pub data Prepares (cps : Cps) (w : Sketch) (vars : List (ℕ × ℕ)) : List Arg → List FrameOp → List FrameArg → Type 0 where
   prepares_none : Prepares cps w vars [] [] []
-  prepares_same : (a : Arg) (b : FrameArg) (args : List Arg) (made : List FrameOp) (bs : List FrameArg) → SameArg cps vars a b → Prepares cps w vars args made bs → Prepares cps w vars (a ∷ args) made (b ∷ bs)
+  prepares_same : (a : Arg) (b : FrameArg) (args : List Arg) (made : List FrameOp) (bs : List FrameArg) → SameArg cps w vars a b → Prepares cps w vars args made bs → Prepares cps w vars (a ∷ args) made (b ∷ bs)
   prepares_closure : (l : ℕ) (to : Var) (code : ℕ) (kept : List Var) (args : List Arg) (made : List FrameOp) (bs : List FrameArg) → MakesClosure cps w vars l to code kept made → IsUnused vars to.0
       → Prepares cps w vars args made bs → Prepares cps w vars (Argument.Proc l ∷ args) (Op.Closure to code kept At.Heap ∷ made) (FrameArgument.Var to ∷ bs)
 
@@ -144,13 +146,13 @@ mutual
         → Gives cps w c t (Continuation.Var k) a [] (Last.Return a)
     gives_join : (c : Context) (t : ℕ) (k : Var) (a : FrameArg) (m : Meeting) (rest : Exits) (ys : List Var) → exit_of c.exits k.0 ≡ Meets m rest
         → IsFor w m.block (Begins (record { vars = m.param ∷ m.needs; exits = rest; catches = c.catches; term = m.body }))
-        → AreHeld c.vars m.needs ys → IsNewIn m.needs rest m.param → length m.needs ≤ most_needs cps
+        → AreHeld c.vars m.needs ys → IsNewIn w m.needs rest m.param → length m.needs ≤ most_needs cps
         → Gives cps w c t (Continuation.Var k) a [] (Last.Jump m.block (a ∷ variables ys))
     gives_jump : (c : Context) (t : ℕ) (param : Var) (body : ℕ) (a : FrameArg) (block : ℕ) (needs : List ℕ) (ys : List Var)
         → IsFor w block (Begins (record { vars = param.0 ∷ needs; exits = c.exits; catches = c.catches; term = body }))
-        → AreHeld c.vars needs ys → IsNewIn needs c.exits param.0 → length needs ≤ most_needs cps
+        → AreHeld c.vars needs ys → IsNewIn w needs c.exits param.0 → length needs ≤ most_needs cps
         → Gives cps w c t (Continuation.Lam param body) a [] (Last.Jump block (a ∷ variables ys))
-    gives_here : (c : Context) (t : ℕ) (param : Var) (body : ℕ) (x : Var) (ops : List FrameOp) (last : FrameEnd) → IsFresh c param.0 → w.rank body < w.rank t
+    gives_here : (c : Context) (t : ℕ) (param : Var) (body : ℕ) (x : Var) (ops : List FrameOp) (last : FrameEnd) → IsFresh c param.0 → w.celled param.0 ≡ false → w.rank body < w.rank t
         → Lays cps w (with_var param.0 x.0 c) body ops last → Gives cps w c t (Continuation.Lam param body) (FrameArgument.Var x) ops last
     gives_unused : (c : Context) (t : ℕ) (param : Var) (body : ℕ) (a : FrameArg) (ops : List FrameOp) (last : FrameEnd) → IsFresh c param.0 → w.rank body < w.rank t
         → Lays cps w c body ops last → Gives cps w c t (Continuation.Lam param body) a ops last
@@ -181,7 +183,7 @@ mutual
         → IsFor w yes (ArmOf c first) → IsFor w no (ArmOf c second)
         → LaysTerm cps w c t (Node.If test first second) made (Last.If b yes no)
     lays_labels : (c : Context) (t : ℕ) (xs : List Var) (lams : List ℕ) (body : ℕ) (made : List FrameOp) (tos : List Var) (ops : List FrameOp) (last : FrameEnd)
-        → Labels cps w (paired (numbers xs) tos ++ c.vars) xs lams made tos → AllByRecursion (λ x. IsFresh c x.0) xs → AreDistinct (numbers xs) → AllByRecursion (λ y. IsUnused c.vars y.0) tos
+        → Labels cps w (paired (numbers xs) tos ++ c.vars) xs lams made tos → AllByRecursion (λ x. IsFresh c x.0 × (w.celled x.0 ≡ false)) xs → AreDistinct (numbers xs) → AllByRecursion (λ y. IsUnused c.vars y.0) tos
         → StartsApart ops → w.rank body < w.rank t → GoesOn cps w (labelled xs tos c) body ops last
         → LaysTerm cps w c t (Node.Labels xs lams body) (made ++ ops) last
     lays_join : (c : Context) (t : ℕ) (k param : Var) (body rest block : ℕ) (needs : List ℕ) (ops : List FrameOp) (last : FrameEnd) → w.rank rest < w.rank t
@@ -213,7 +215,7 @@ pub record CodeFits (cps : Cps) (w : Sketch) (l : ℕ) (b : Block) : Type 0 wher
   pub begins : IsFor w body (Begins (record { vars = numbers lam.params ++ w.needs l; exits = OwnExit lam.k.0; catches = []; term = lam.body }))
   pub held : AreHeld vars (numbers lam.params ++ w.needs l) ys
   pub once : AreDistinct (numbers lam.params)
-  pub apart : AllByRecursion (λ x. is_in (w.needs l) x ≡ false) (numbers lam.params)
+  pub apart : AllByRecursion (λ x. (is_in (w.needs l) x ≡ false) × (w.celled x ≡ false)) (numbers lam.params)
 
 pub record BeginFits (cps : Cps) (w : Sketch) (start : Start) (b : Block) : Type 0 where
   pub count : length start.vars ≡ length b.params
@@ -232,7 +234,7 @@ pub record ReturnFits (cps : Cps) (w : Sketch) (r : Return) (b : Block) : Type 0
   pub rest : List FrameOp
   pub takes : b.params ≡ value ∷ []
   pub ops : b.ops.items ≡ gets ++ Op.Pop ∷ rest
-  pub new : IsNewIn r.kept r.exits r.param
+  pub new : IsNewIn w r.kept r.exits r.param
   pub small : length r.kept ≤ most_needs cps
   pub fetches : Fetches (λ y slot. Op.FrameGet y slot) value.0 r.kept ((r.param, value.0) ∷ []) vars gets
   pub few : length gets ≤ most_needs cps

@@ -1,6 +1,6 @@
 -- Which values of the run of a program are the same as which of the run of its frames. What has an identity is tied to an address: ties
 -- are pairs of numbers, so that no value is followed into what it holds.
-use Rattle.std.specs.Prelude.{◌≡◌, ℕ, suc, ℤ, ◌≤◌, nat_eq, List, [], ◌∷◌, Option, Some, None}
+use Rattle.std.specs.Prelude.{◌≡◌, ℕ, suc, ℤ, ◌≤◌, nat_eq, Bool, true, false, List, [], ◌∷◌, Option, Some, None}
 use Rattle.std.specs.List.{AllZip}
 use Rattle.t_base.specs.declared.builtins.Builtin.{Builtin}
 use Rattle.t_base.specs.declared.faults.Fault.{Fault}
@@ -71,10 +71,10 @@ pub data SameVal (links : Links) : Val → Val → Type 0 where
   builtin : (b : Builtin) → SameVal links (BuiltinV b) (BuiltinV b)
   escape : (i j : ℕ) → IsTied links.escapes i j → SameVal links (EscapeV i) (EscapeV j)
 
--- what a variable stands for and what a variable of the frames holds. No closure stands in a frame yet.
-pub data SameMeant (links : Links) : Meant → Value → Type 0 where
-  value : (a b : Val) → SameVal links a b → SameMeant links (Direct a) (Lasting b)
-  cell : (i j : ℕ) → IsTied links.cells i j → SameMeant links (InLocation i) (CellAt j)
+-- what a variable stands for and what a variable of the frames holds, as a cell or not. No closure stands in a frame yet.
+pub data SameMeant (links : Links) : Bool → Meant → Value → Type 0 where
+  value : (a b : Val) → SameVal links a b → SameMeant links false (Direct a) (Lasting b)
+  cell : (i j : ℕ) → IsTied links.cells i j → SameMeant links true (InLocation i) (CellAt j)
 
 -- ---- stores
 

@@ -26,31 +26,31 @@ pub data Leads : Scope → Exits → Type 0 where
   leads_bound : (x : ℕ) (meant : Meant) (scope : Scope) (exits : Exits) → IsUnneeded exits x → Leads scope exits → Leads (Bound x meant ∷ scope) exits
 
 -- a variable, and that of the frames that holds what it stands for
-pub record Holds (links : Links) (scope : Scope) (env : Env) (x y : ℕ) : Type 0 where
+pub record Holds (w : Sketch) (links : Links) (scope : Scope) (env : Env) (x y : ℕ) : Type 0 where
   pub meant : Meant
   pub value : Value
   pub is : meant_by scope x ≡ Some meant
   pub at : value_at env y ≡ Some value
-  pub same : SameMeant links meant value
+  pub same : SameMeant links (w.celled x) meant value
 
-abbrev pub HoldAll : Links → Scope → Env → List (ℕ × ℕ) → Type 0
-HoldAll links scope env vars = (x y : ℕ) → IsIn (x, y) vars → Holds links scope env x y
+abbrev pub HoldAll : Sketch → Links → Scope → Env → List (ℕ × ℕ) → Type 0
+HoldAll w links scope env vars = (x y : ℕ) → IsIn (x, y) vars → Holds w links scope env x y
 
 -- a variable, and a value that was captured or kept of it
-pub record IsCaptured (links : Links) (scope : Scope) (x : ℕ) (v : Value) : Type 0 where
+pub record IsCaptured (w : Sketch) (links : Links) (scope : Scope) (x : ℕ) (v : Value) : Type 0 where
   pub meant : Meant
   pub is : meant_by scope x ≡ Some meant
-  pub same : SameMeant links meant v
+  pub same : SameMeant links (w.celled x) meant v
 
-abbrev pub AreCaptured : Links → Scope → List ℕ → List Value → Type 0
-AreCaptured links scope xs vs = Zipped (IsCaptured links scope) xs vs
+abbrev pub AreCaptured : Sketch → Links → Scope → List ℕ → List Value → Type 0
+AreCaptured w links scope xs vs = Zipped (IsCaptured w links scope) xs vs
 
 -- ---- records
 
 -- a closure, and the record at its address: the code of its procedure, and what this needs
 pub record SameClosure (w : Sketch) (links : Links) (c : Closure) (r : FrameClosure) : Type 0 where
   pub runs : IsFor w r.code (CodeOf c.lam)
-  pub captured : AreCaptured links c.scope (w.needs c.lam) r.captured
+  pub captured : AreCaptured w links c.scope (w.needs c.lam) r.captured
 
 pub record ClosuresAt (w : Sketch) (links : Links) (cs : List Closure) (rs : List FrameClosure) (i j : ℕ) : Type 0 where
   pub left : Closure
@@ -70,7 +70,7 @@ pub record SameFrame (w : Sketch) (links : Links) (frames : List Frame) (pending
   pub param : pending.param ≡ r.param
   pub body : pending.body ≡ r.body
   pub leads : Leads pending.scope r.exits
-  pub kept : AreCaptured links pending.scope r.kept frame.kept
+  pub kept : AreCaptured w links pending.scope r.kept frame.kept
 
 -- under the open CATCHes of the running procedure, item by item
 pub data Waits (w : Sketch) (links : Links) (frames : List Frame) : List Catching → List Waiting → List ℕ → Type 0 where
@@ -91,7 +91,7 @@ pub record SameMade (cps : Cps) (w : Sketch) (links : Links) (s : State) (t : Fr
 
 -- what is done next
 pub data SameDoing (cps : Cps) (w : Sketch) (links : Links) (frames : List Frame) (waiting : List Waiting) (live : List ℕ) : Control → Doing → Type 0 where
-  same_term : (c : Context) (t : ℕ) (scope : Scope) (ops : List FrameOp) (last : FrameEnd) (env : Env) → Lays cps w c t ops last → HoldAll links scope env c.vars → Leads scope c.exits
+  same_term : (c : Context) (t : ℕ) (scope : Scope) (ops : List FrameOp) (last : FrameEnd) (env : Env) → Lays cps w c t ops last → HoldAll w links scope env c.vars → Leads scope c.exits
       → Waits w links frames c.catches waiting live → SameDoing cps w links frames waiting live (At t scope) (Running ops last env)
   same_call : (f g : Val) (xs ys : List Val) → SameVal links f g → Zipped (SameVal links) xs ys → Waits w links frames [] waiting live
       → SameDoing cps w links frames waiting live (Calling f xs) (CallingAt (Lasting g) ys)
