@@ -5,3 +5,4 @@ pub mod Growing
 pub mod Scopes
 pub mod Made
 pub mod Making
+pub mod Arguments
