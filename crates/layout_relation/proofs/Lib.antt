@@ -6,3 +6,4 @@ pub mod Scopes
 pub mod Made
 pub mod Making
 pub mod Arguments
+pub mod Preparing
