@@ -7,3 +7,4 @@ pub mod Made
 pub mod Making
 pub mod Arguments
 pub mod Preparing
+pub mod Arriving
