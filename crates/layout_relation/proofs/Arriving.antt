@@ -114,10 +114,10 @@ pub record Arrives (cps : Cps) (p : Frames) (w : Sketch) (Low : ℕ → ℕ → 
   pub path : Path p Low t end most
   pub related : Related cps w s end
 
-pub arrives_after : (cps : Cps) (p : Frames) (w : Sketch) (Low : ℕ → ℕ → Type 0) (s : State) (t u : FrameState) (m n : ℕ) → Path p Low t u m → Arrives cps p w Low s u n → Arrives cps p w Low s t (m + n)
+abbrev pub arrives_after : (cps : Cps) (p : Frames) (w : Sketch) (Low : ℕ → ℕ → Type 0) (s : State) (t u : FrameState) (m n : ℕ) → Path p Low t u m → Arrives cps p w Low s u n → Arrives cps p w Low s t (m + n)
 arrives_after cps p w Low s t u m n path a = record { end = a.end; path = follows p Low t u a.end m n path a.path; related = a.related }
 
-pub arrives_more : (cps : Cps) (p : Frames) (w : Sketch) (Low : ℕ → ℕ → Type 0) (s : State) (t : FrameState) (m n : ℕ) → m ≤ n → Arrives cps p w Low s t m → Arrives cps p w Low s t n
+abbrev pub arrives_more : (cps : Cps) (p : Frames) (w : Sketch) (Low : ℕ → ℕ → Type 0) (s : State) (t : FrameState) (m n : ℕ) → m ≤ n → Arrives cps p w Low s t m → Arrives cps p w Low s t n
 arrives_more cps p w Low s t m n le a = record { end = a.end; path = record { count = a.path.count; goes = a.path.goes; moves = let x = a.path.moves in omega (arith, x, le); low = a.path.low }; related = a.related }
 
 module _ (cps : Cps) (p : Frames) (laid : IsLaidOut cps p) (Low : ℕ → ℕ → Type 0) where
@@ -127,7 +127,7 @@ module _ (cps : Cps) (p : Frames) (laid : IsLaidOut cps p) (Low : ℕ → ℕ �
   -- a jump to a block that begins the term at which s stands
   pub jump_arrives : (links : Links) (s : State) (u : FrameState) (scope : Scope) (env : Env) (block : ℕ) (start : Start) (args : List FrameArg) (vs : List Value) → IsFor w block (Begins start) → values_of p.shared env args ≡ Some vs
       → AreCaptured w links scope start.vars vs → Leads scope start.exits → Waits w links u.frames start.catches s.waiting u.live → SameMade cps w links s u → s.control ≡ At start.term scope → Low u.store.heap (length u.live)
-      → Arrives cps p w Low s (going (Running [] (Last.Jump block args) env) u) (1 + length args)
+      → (a : Arrives cps p w Low s (going (Running [] (Last.Jump block args) env) u) (1 + length args)) × (1 ≤ a.path.count)
   jump_arrives links s u scope env block start args vs e reads captured leads waits made control low =
       let b = block_at cps p laid block (Begins start) e in
       let n : length b.block.params ≡ length vs = let x = b.fits.count in let y = zipped_length _ _ _ captured in omega (arith, x, y) in
@@ -136,7 +136,7 @@ module _ (cps : Cps) (p : Frames) (laid : IsLaidOut cps p) (Low : ℕ → ℕ �
       let one : step p t ≡ end = ap (λ o. or_wrong o t (λ vs. jumped p block vs (counted (1 + length args) t))) reads
           ∙ ap (λ o. or_wrong o (counted (1 + length args) t) (λ b. if length b.params == length vs then begun b (bound b.params vs) (counted (1 + length args) t) else wrong (counted (1 + length args) t))) b.is
           ∙ ap (λ x. if x then begun b.block (bound b.block.params vs) (counted (1 + length args) t) else wrong (counted (1 + length args) t)) (eq-eqb (length b.block.params) (length vs) n) in
-      record {
+      (record {
         end = end;
         path = steps p Low t end (1 + length args) one (omega arith) low;
         related = record {
@@ -146,7 +146,7 @@ module _ (cps : Cps) (p : Frames) (laid : IsLaidOut cps p) (Low : ℕ → ℕ �
               (same_term (record { vars = paired start.vars b.block.params; exits = start.exits; catches = start.catches }) start.term scope b.block.ops.items b.block.last (bound b.block.params vs) b.fits.lays
               (bound_hold w links scope start.vars vs b.block.params captured b.fits.count b.fits.distinct) leads waits);
         };
-      }
+      }, omega arith)
 
   -- ---- what is fetched
 

@@ -8,3 +8,4 @@ pub mod Making
 pub mod Arguments
 pub mod Preparing
 pub mod Arriving
+pub mod Handing

@@ -15,10 +15,10 @@ pub record Path (p : Frames) (Low : ℕ → ℕ → Type 0) (s u : State) (most 
   pub low : (i : ℕ) → 1 ≤ i → i ≤ count → let t = after (step p) i s in Low t.store.heap (length t.live)
 
 module _ (p : Frames) (Low : ℕ → ℕ → Type 0) where
-  pub stays : (s : State) → Path p Low s s 0
+  abbrev pub stays : (s : State) → Path p Low s s 0
   stays s = record { count = 0; goes = refl; moves = omega arith; low = λ i a b. absurd (omega (arith, a, b)) }
 
-  pub steps : (s u : State) (most : ℕ) → step p s ≡ u → u.moves ≤ s.moves + most → Low u.store.heap (length u.live) → Path p Low s u most
+  abbrev pub steps : (s u : State) (most : ℕ) → step p s ≡ u → u.moves ≤ s.moves + most → Low u.store.heap (length u.live) → Path p Low s u most
   steps s u most e le low = record {
     count = 1;
     goes = e;
@@ -26,7 +26,7 @@ module _ (p : Frames) (Low : ℕ → ℕ → Type 0) where
     low = λ i a b. let one : 1 ≡ i = omega (arith, a, b) in subst (λ i. let t = after (step p) i s in Low t.store.heap (length t.live)) one (subst (λ t. Low t.store.heap (length t.live)) (sym e) low);
   }
 
-  pub follows : (s t u : State) (m n : ℕ) → Path p Low s t m → Path p Low t u n → Path p Low s u (m + n)
+  abbrev pub follows : (s t u : State) (m n : ℕ) → Path p Low s t m → Path p Low t u n → Path p Low s u (m + n)
   follows s t u m n a b = record {
     count = a.count + b.count;
     goes = after_add (step p) a.count b.count s ∙ ap (after (step p) b.count) a.goes ∙ b.goes;
