@@ -36,7 +36,7 @@ use Rattle.layout_relation.proofs.Preparing.{remade}
 
 -- ---- parameters
 
-in_numbers : (xs : List ℕ) (ys : List Var) (a b : ℕ) → IsIn (a, b) (paired xs ys) → IsIn b (numbers ys)
+pub in_numbers : (xs : List ℕ) (ys : List Var) (a b : ℕ) → IsIn (a, b) (paired xs ys) → IsIn b (numbers ys)
 in_numbers [] ys a b h = absurd (in_none (a, b) h)
 in_numbers (x ∷ xs) [] a b h = absurd (in_none (a, b) h)
 in_numbers (x ∷ xs) (y ∷ ys) a b h = ⊎_elim
@@ -45,7 +45,7 @@ in_numbers (x ∷ xs) (y ∷ ys) a b h = ⊎_elim
     (in_cases (a, b) (x, y.0) (paired xs ys) h)
 
 module _ (w : Sketch) (links : Links) (scope : Scope) where
-  bound_later : (env : Env) (vars : List (ℕ × ℕ)) (y : ℕ) (v : Value) → ((a b : ℕ) → IsIn (a, b) vars → (b == y) ≡ false) → HoldAll w links scope env vars → HoldAll w links scope ((y, v) ∷ env) vars
+  pub bound_later : (env : Env) (vars : List (ℕ × ℕ)) (y : ℕ) (v : Value) → ((a b : ℕ) → IsIn (a, b) vars → (b == y) ≡ false) → HoldAll w links scope env vars → HoldAll w links scope ((y, v) ∷ env) vars
   bound_later env vars y v apart h a b i =
       let k = h a b i in
       record { meant = k.meant; value = k.value; is = k.is; at = other_value y b v env (eqb_flip b y (apart a b i)) ∙ k.at; same = k.same }
@@ -158,7 +158,7 @@ module _ (cps : Cps) (p : Frames) (laid : IsLaidOut cps p) (Low : ℕ → ℕ �
     pub held : HoldAll w links scope env2 behind
     pub stays : value_at env2 apart ≡ value_at env apart
 
-  fetched_none : (links : Links) (scope : Scope) (vars : List (ℕ × ℕ)) (rest : List FrameOp) (last : FrameEnd) (env : Env) (u : FrameState) (apart : ℕ) → HoldAll w links scope env vars → Fetched links scope vars [] rest last env u apart 0
+  pub fetched_none : (links : Links) (scope : Scope) (vars : List (ℕ × ℕ)) (rest : List FrameOp) (last : FrameEnd) (env : Env) (u : FrameState) (apart : ℕ) → HoldAll w links scope env vars → Fetched links scope vars [] rest last env u apart 0
   fetched_none links scope vars rest last env u apart h = record { env2 = env; state = u; counts = record { store = refl; closures = refl; globals = refl; frames = refl; live = refl }; path = stays p Low (going (Running rest last env) u); held = h; stays = refl }
 
   fetched_one : (links : Links) (scope : Scope) (behind : List (ℕ × ℕ)) (op : FrameOp) (ops rest : List FrameOp) (last : FrameEnd) (env : Env) (u : FrameState) (apart y n most : ℕ) (v : Value) → step p (going (Running (op ∷ ops ++ rest) last env) u) ≡ going (Running (ops ++ rest) last ((y, v) ∷ env)) (counted n u)

@@ -9,3 +9,4 @@ pub mod Arguments
 pub mod Preparing
 pub mod Arriving
 pub mod Handing
+pub mod Calling

@@ -136,6 +136,8 @@ made_more cps w links s s2 t t2 cs rs words h c b few same =
       store = subst (λ x. SameStore new x t2.store) (sym c.store) (subst (λ y. SameStore new (record s.store { heap = s.store.heap + words }) y) (sym b.store) (wider (store_grows links new more s.store t.store h.store)));
       closures = subst (λ xs. (i j : ℕ) → IsTied new.closures i j → ClosuresAt w new xs t2.closures i j) (sym c.closures) (subst (λ ys. (i j : ℕ) → IsTied new.closures i j → ClosuresAt w new (s.closures ++ cs) ys i j) (sym b.closures) there);
       globals = subst (λ xs. AllZip (SameOption (SameVal new)) xs t2.globals) (sym c.globals) (subst (λ ys. AllZip (SameOption (SameVal new)) s.globals ys) (sym b.globals) (globals_grow links new more s.globals t.globals h.globals));
+      objects = h.objects;
+      escapes = h.escapes;
       procedures = λ g code e. let k = h.procedures g code e in (subst (λ xs. slice_get xs g ≡ Some (Some (ClosureV code))) (sym c.globals) k.0, more.closures code code k.1);
     }
   where

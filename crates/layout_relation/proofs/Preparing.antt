@@ -61,6 +61,8 @@ remade cps w links s s2 t t2 h a b c d e f = record {
   store = subst (λ x. SameStore links x t2.store) (sym a) (subst (λ y. SameStore links s.store y) (sym d) h.store);
   closures = subst (λ xs. (i j : ℕ) → IsTied links.closures i j → ClosuresAt w links xs t2.closures i j) (sym b) (subst (λ ys. (i j : ℕ) → IsTied links.closures i j → ClosuresAt w links s.closures ys i j) (sym e) h.closures);
   globals = subst (λ xs. AllZip (SameOption (SameVal links)) xs t2.globals) (sym c) (subst (λ ys. AllZip (SameOption (SameVal links)) s.globals ys) (sym f) h.globals);
+  objects = h.objects;
+  escapes = h.escapes;
   procedures = λ g code k. let x = h.procedures g code k in (subst (λ xs. slice_get xs g ≡ Some (Some (ClosureV code))) (sym c) x.0, x.1);
 }
 

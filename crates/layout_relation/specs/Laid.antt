@@ -211,6 +211,7 @@ pub record CodeFits (cps : Cps) (w : Sketch) (l : ℕ) (b : Block) : Type 0 wher
   pub count : length params ≡ length lam.params
   pub few : length lam.params ≤ 20
   pub fetches : Fetches (λ y slot. Op.ClosureGet y self slot) self.0 (w.needs l) (paired (numbers lam.params) params) vars b.ops.items
+  pub short : length b.ops.items ≤ most_needs cps
   pub goes : b.last ≡ Last.Jump body (variables ys)
   pub begins : IsFor w body (Begins (record { vars = numbers lam.params ++ w.needs l; exits = OwnExit lam.k.0; catches = []; term = lam.body }))
   pub held : AreHeld vars (numbers lam.params ++ w.needs l) ys

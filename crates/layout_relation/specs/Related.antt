@@ -86,6 +86,9 @@ pub record SameMade (cps : Cps) (w : Sketch) (links : Links) (s : State) (t : Fr
   pub store : SameStore links s.store t.store
   pub closures : (i j : ℕ) → IsTied links.closures i j → ClosuresAt w links s.closures t.closures i j
   pub globals : AllZip (SameOption (SameVal links)) s.globals t.globals
+  -- no term that is laid out so far makes an object or an escape
+  pub objects : links.objects ≡ []
+  pub escapes : links.escapes ≡ []
   -- the procedures of globals stay
   pub procedures : (g code : ℕ) → code_of_global cps.shared g ≡ Some code → (slice_get s.globals g ≡ Some (Some (ClosureV code))) × IsTied links.closures code code
 
