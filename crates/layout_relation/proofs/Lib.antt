@@ -10,3 +10,4 @@ pub mod Preparing
 pub mod Arriving
 pub mod Handing
 pub mod Calling
+pub mod Stepping

@@ -1,0 +1,231 @@
+-- Calls that are made or passed on, and operations that look for their default, on both sides.
+use Rattle.std.proofs.Common.{◌≡◌, ℕ, zero, suc, ◌+◌, ◌*◌, ◌≤◌, ◌<◌, ◌==◌, ◌⊎◌, Bool, true, false, if◌then◌else◌, List, [], ◌∷◌, ◌++◌, length, map, take, filter, Option, Some, None, slice_get, refl, sym, ap, subst, ◌∙◌, arith, ⊎_elim, inl, inr}
+use Rattle.std.specs.Prelude.{option_and_then, IsSomeAnd, count_by}
+use Rattle.std.specs.Option.{option_map_or}
+use Rattle.std.proofs.lemmas.Bool.{true≢false, eq-eqb, eqb-true}
+use Rattle.std.proofs.lemmas.List.Sums.{length-filter, sum_by-cons}
+use Rattle.program_runs.specs.Runs as runs
+use Rattle.t_base.specs.declared.faults.Fault.{Fault}
+use Rattle.t_base.specs.declared.faults.Fault.TheVariants.{WrongCount, NotProcedure, NotHandled}
+use Rattle.t_base.specs.declared.builtins.Builtin.{Builtin}
+use Rattle.t_base.specs.declared.shared_parts.Global1.{Global1}
+use Rattle.t_base.specs.declared.shared_parts.GlobalKind.{GlobalKind}
+use Rattle.t_base.specs.declared.shared_parts.GlobalKind.TheVariants as Kind
+use Rattle.t_base.specs.declared.shared_parts.OpInfo.{OpInfo}
+use Rattle.t_base.specs.declared.shared_parts.Shared.{Shared}
+use Rattle.t_prim.specs.Values.{Val, ClosureV, ObjectV, OperationV, BuiltinV, EscapeV, Store}
+use Rattle.t_prim.specs.Operands.{Row, Gives, Changes, Faults}
+use Rattle.t_prim.specs.Table.{row}
+use Rattle.cps_ir.specs.declared.terms.Cps.{Cps}
+use Rattle.cps_ir.specs.Parts.{is_proc, is_procedure, global_lams, first_lams}
+use Rattle.cps_ir.specs.States.{Scope, Control, At, Looking, Entering, Ended, State, Program, marked, all_escape, Closure, Handler, Waiting, Back, Live, Pending, going as going_to, faulted as faulted_to, with_store as store_to, with_waiting}
+use Rattle.cps_ir.specs.Giving.{or_unbound, after_row as row_to, returned}
+use Rattle.cps_ir.specs.Calls.{entered as entered_to, called as called_to, operated as operated_to, looked as looked_to, default_at, default_of, handlers_at, defaulted as defaulted_to}
+use Rattle.frame_ir.specs.declared.forms.Frames.{Frames}
+use Rattle.frame_ir.specs.Values.{Value, Lasting, Closure as FrameClosure}
+use Rattle.frame_ir.specs.States.{Doing, Looking as LookingAt, Entering as EnteringAt, State as FrameState, going, counted, wrong, faulted, or_wrong, after_row, with_store}
+use Rattle.frame_ir.specs.Arguments.{is_proc as is_proc_at, number_among, proc_count, code_of_default}
+use Rattle.frame_ir.specs.Calls.{entered, returned as returned_to, called, operated, looked, methods_at, defaulted}
+use Rattle.layout_relation.specs.Links.{IsIn, Zipped, zip_none, zip_one, SameOption, neither, both, Ties, IsTied, Links, SameVal, fix, char, nil, truth, symbol, string, pair, vector, closure, object, operation, builtin, escape, SameStore, SameRow, gives, changes, faults}
+use Rattle.layout_relation.specs.Contexts.{CodeOf}
+use Rattle.layout_relation.specs.Laid.{Sketch, IsFor, IsLaidOut}
+use Rattle.layout_relation.specs.Related.{ClosuresAt, Waits, SameMade, SameDoing, same_look, same_entry, Related}
+use Rattle.layout_relation.proofs.Lists.{in_none}
+use Rattle.layout_relation.proofs.Rows.{row_same}
+use Rattle.layout_relation.proofs.Preparing.{remade}
+use Rattle.layout_relation.proofs.Arriving.{Arrives, arrives_more}
+use Rattle.layout_relation.proofs.Handing.{LowBelow, bound_to, return_moves, Returns, returned_arrives}
+use Rattle.layout_relation.proofs.Calling.{Stands, stands_by, entry_moves, fault_stands, Source, needs_none, in_record, entry_stands}
+
+-- ---- defaults
+
+-- the number of an item among those that pass, from n on
+data Numbered {X : Type 0} (test : X → Bool) (n : ℕ) (xs : List X) (k : ℕ) : Option ℕ → Type 0 where
+  isnt_there : option_map_or test (slice_get xs k) false ≡ false → Numbered test n xs k None
+  is_there : (m : ℕ) → option_map_or test (slice_get xs k) false ≡ true → m ≡ n + length (filter test (take k xs)) → m < n + length (filter test xs) → Numbered test n xs k (Some m)
+
+number_here : {X : Type 0} (test : X → Bool) (n : ℕ) (x : X) (xs : List X) (b : Bool) → test x ≡ b → Numbered test n (x ∷ xs) 0 (if b then Some n else None)
+number_here test n x xs true e = is_there n e (omega arith) (let l = ap (λ b. length (if b then x ∷ filter test xs else filter test xs)) e in omega (arith, l))
+number_here test n x xs false e = isnt_there e
+
+number_later : {X : Type 0} (test : X → Bool) (n j : ℕ) (x : X) (xs : List X) (k : ℕ) (o : Option ℕ) (b : Bool) → test x ≡ b → j ≡ (if b then suc n else n) → Numbered test j xs k o → Numbered test n (x ∷ xs) (suc k) o
+number_later test n j x xs k o b e is (isnt_there h) = isnt_there h
+number_later test n j x xs k o true e is (is_there m h a c) =
+    is_there m h (let l = ap (λ b. length (if b then x ∷ filter test (take k xs) else filter test (take k xs))) e in omega (arith, a, l, is)) (let l = ap (λ b. length (if b then x ∷ filter test xs else filter test xs)) e in omega (arith, c, l, is))
+number_later test n j x xs k o false e is (is_there m h a c) =
+    is_there m h (let l = ap (λ b. length (if b then x ∷ filter test (take k xs) else filter test (take k xs))) e in omega (arith, a, l, is)) (let l = ap (λ b. length (if b then x ∷ filter test xs else filter test xs)) e in omega (arith, c, l, is))
+
+numbered : {X : Type 0} (test : X → Bool) (n : ℕ) (xs : List X) (k : ℕ) → Numbered test n xs k (number_among test n xs k)
+numbered test n [] k = isnt_there refl
+numbered test n (x ∷ xs) zero = number_here test n x xs (test x) refl
+numbered test n (x ∷ xs) (suc k) = number_later test n (if test x then suc n else n) x xs k (number_among test (if test x then suc n else n) xs k) (test x) refl refl (numbered test (if test x then suc n else n) xs k)
+
+abbrev one_if : Bool → ℕ
+one_if b = if b then 1 else 0
+
+same_kind : (k : GlobalKind) → one_if (is_proc k) ≡ one_if (is_proc_at k)
+same_kind Kind.Proc = refl
+same_kind Kind.Value = refl
+same_kind Kind.Variable = refl
+
+same_counts : (xs : List Global1) → count_by is_procedure xs ≡ count_by (λ g. is_proc_at g.kind) xs
+same_counts [] = refl
+same_counts (g ∷ xs) = sum_by-cons (λ g. one_if (is_procedure g)) g xs ∙ ap (λ n. n + count_by is_procedure xs) (same_kind g.kind)
+    ∙ ap (λ n. one_if (is_proc_at g.kind) + n) (same_counts xs) ∙ sym (sum_by-cons (λ g. one_if (is_proc_at g.kind)) g xs)
+
+procs_alike : (xs : List Global1) → length (filter is_procedure xs) ≡ count_by (λ g. is_proc_at g.kind) xs
+procs_alike xs = length-filter is_procedure xs ∙ same_counts xs
+
+-- the default of an operation, and the code that stands at its place
+pub record SameDefault (cps : Cps) (c : Closure) (code : ℕ) : Type 0 where
+  pub lam : c.lam ≡ code
+  pub within : code < first_lams cps
+
+default_from : (cps : Cps) (o : ℕ) (info : Option OpInfo) (code : Option ℕ) → slice_get cps.shared.ops.items o ≡ info → Numbered (λ x. x.default) (proc_count cps.shared) cps.shared.ops.items o code
+    → SameOption (SameDefault cps) (option_map_or (default_at cps o) info None) code
+default_from cps o None code is (isnt_there h) = neither
+default_from cps o None code is (is_there m h a b) = absurd (true≢false (sym h ∙ ap (λ x. option_map_or (λ y. y.default) x false) is))
+default_from cps o (Some info) code is (isnt_there h) =
+    let no : info.default ≡ false = sym (ap (λ x. option_map_or (λ y. y.default) x false) is) ∙ h in
+    subst (λ x. SameOption (SameDefault cps) x None) (sym (ap (λ b. if b then Some (record { lam = global_lams cps + length (filter (λ other. other.default) (take o cps.shared.ops.items)); scope = [] }) else None) no)) neither
+default_from cps o (Some info) code is (is_there m h a b) =
+    let yes : info.default ≡ true = sym (ap (λ x. option_map_or (λ y. y.default) x false) is) ∙ h in
+    let count = procs_alike cps.shared.globals.items in
+    let c : Closure = record { lam = global_lams cps + length (filter (λ other. other.default) (take o cps.shared.ops.items)); scope = [] } in
+    subst (λ x. SameOption (SameDefault cps) x (Some m)) (sym (ap (λ b. if b then Some c else None) yes)) (both c m (record { lam = omega (arith, count, a); within = omega (arith, count, b) }))
+
+pub default_same : (cps : Cps) (o : ℕ) → SameOption (SameDefault cps) (default_of cps o) (code_of_default cps.shared o)
+default_same cps o = default_from cps o (slice_get cps.shared.ops.items o) (code_of_default cps.shared o) refl (numbered (λ x. x.default) (proc_count cps.shared) cps.shared.ops.items o)
+
+-- ---- what a call comes to
+
+module _ (cps : Cps) (p : Frames) (laid : IsLaidOut cps p) (Low : ℕ → ℕ → Type 0) where
+  abbrev w : Sketch
+  w = laid.sketch
+
+  abbrev P : Program
+  P = marked cps all_escape
+
+  -- s2 is reached from y, which is low
+  pub record Comes (s2 : State) (t y : FrameState) (most : ℕ) : Type 0 where
+    pub arrives : Arrives cps p w Low s2 y most
+    pub moves : y.moves ≡ t.moves
+    pub low : Low y.store.heap (length y.live)
+
+  pub comes_by : (s2 s3 : State) (t y z : FrameState) (most : ℕ) → s2 ≡ s3 → y ≡ z → Comes s3 t z most → Comes s2 t y most
+  comes_by s2 s3 t y z most e f h = subst (λ s. Comes s t y most) (sym e) (subst (λ x. Comes s3 t x most) (sym f) h)
+
+  stands_come : (s2 : State) (t y : FrameState) (m n : ℕ) → m ≤ n → LowBelow cps p laid Low t → Stands cps p laid Low s2 t y m → Comes s2 t y n
+  stands_come s2 t y m n le low h = record {
+    arrives = arrives_more cps p w Low s2 y m n le h.arrives;
+    moves = h.moves;
+    low = subst (λ st. Low st.heap (length y.live)) (sym h.store) (subst (λ l. Low t.store.heap (length l)) (sym h.live) (low (length t.live) (omega arith)));
+  }
+
+  returns_come : (s2 : State) (t : FrameState) (b : Val) (n : ℕ) → return_moves cps p laid Low ≤ n → LowBelow cps p laid Low t → Returns cps p laid Low s2 t b → Comes s2 t (returned_to p b t) n
+  returns_come s2 t b n le low h = record {
+    arrives = arrives_more cps p w Low s2 (returned_to p b t) (return_moves cps p laid Low) n le h.arrives;
+    moves = h.moves;
+    low = subst (λ st. Low st.heap (length (returned_to p b t).live)) (sym h.store) (subst (λ l. Low t.store.heap (length l)) (sym h.live) (low (length t.live) (omega arith)));
+  }
+
+  pub returned_store : (waiting : List Waiting) (v : Val) (s : State) → (returned P waiting v s).store ≡ s.store
+  returned_store [] v s = refl
+  returned_store (Back pending ∷ waiting) v s = ap (λ x. x.store) (bound_to cps p laid Low pending.param v pending.scope (with_waiting s waiting) (λ scope t. going_to (At pending.body scope) t))
+  returned_store (Live i own ∷ waiting) v s = refl
+
+  -- a builtin
+  row_comes : (links : Links) (s : State) (t : FrameState) (r q : Row) → SameRow links r q → Waits w links t.frames [] s.waiting t.live → SameMade cps w links s t → LowBelow cps p laid Low t
+      → ((st : Store) (n : ℕ) → st.heap ≤ (row_to r s (λ v u. returned P u.waiting v u)).store.heap → n ≤ length t.live → Low st.heap n) → Comes (row_to r s (λ v u. returned P u.waiting v u)) t (after_row q t (returned_to p)) (entry_moves cps p laid Low)
+  row_comes links s t r q (gives x y h) waits made low lows = returns_come (returned P s.waiting x s) t y (entry_moves cps p laid Low) (omega arith) low (returned_arrives cps p laid Low links s t x y waits h made low)
+  row_comes links s t r q (changes a b x y st h) waits made low lows =
+      let s2 = store_to s a in
+      let t2 = with_store t b in
+      let low2 : LowBelow cps p laid Low t2 = λ n le. lows b n (let e = ap (λ z. z.heap) (returned_store s.waiting x s2) in let f = st.heap in omega (arith, e, f)) le in
+      let made2 : SameMade cps w links s2 t2 = record { one = made.one; store = st; closures = made.closures; globals = made.globals; objects = made.objects; escapes = made.escapes; procedures = made.procedures } in
+      let c = returns_come (returned P s.waiting x s2) t2 y (entry_moves cps p laid Low) (omega arith) low2 (returned_arrives cps p laid Low links s2 t2 x y waits h made2 low2) in
+      record { arrives = c.arrives; moves = c.moves; low = c.low }
+  row_comes links s t r q (faults fault) waits made low lows = stands_come (faulted_to fault s) t (faulted fault t) 0 (entry_moves cps p laid Low) (omega arith) low (fault_stands cps p laid Low links s t fault 0 made)
+
+  -- an operation: no value has methods
+  no_handlers : (links : Links) (s : State) (t : FrameState) (v u : Val) → links.objects ≡ [] → SameVal links v u → (handlers_at s v ≡ []) × (methods_at p t u ≡ [])
+  no_handlers links s t v u none (object i j h) = absurd (in_none (i, j) (subst (λ xs. IsIn (i, j) xs) none h))
+  no_handlers links s t v u none (fix z) = (refl, refl)
+  no_handlers links s t v u none (char c) = (refl, refl)
+  no_handlers links s t v u none nil = (refl, refl)
+  no_handlers links s t v u none truth = (refl, refl)
+  no_handlers links s t v u none (symbol n) = (refl, refl)
+  no_handlers links s t v u none (string x) = (refl, refl)
+  no_handlers links s t v u none (pair k) = (refl, refl)
+  no_handlers links s t v u none (vector k) = (refl, refl)
+  no_handlers links s t v u none (closure i j h) = (refl, refl)
+  no_handlers links s t v u none (operation o) = (refl, refl)
+  no_handlers links s t v u none (builtin b) = (refl, refl)
+  no_handlers links s t v u none (escape i j h) = (refl, refl)
+
+  -- the frames stand where s is
+  here_comes : (links : Links) (s : State) (t : FrameState) (most : ℕ) → Related cps w s t → LowBelow cps p laid Low t → Comes s t t most
+  here_comes links s t most r low = record { arrives = record { end = t; path = record { count = 0; goes = refl; moves = omega arith; low = λ i a b. absurd (omega (arith, a, b)) }; related = r }; moves = refl; low = low (length t.live) (omega arith) }
+
+  operation_comes : (links : Links) (s : State) (t : FrameState) (o : ℕ) (xs ys : List Val) → Zipped (SameVal links) xs ys → Waits w links t.frames [] s.waiting t.live → SameMade cps w links s t → LowBelow cps p laid Low t
+      → Comes (operated_to o xs s) t (operated p o ys t) (entry_moves cps p laid Low)
+  operation_comes links s t o xs ys zip_none waits made low = stands_come (faulted_to WrongCount s) t (faulted WrongCount t) 0 (entry_moves cps p laid Low) (omega arith) low (fault_stands cps p laid Low links s t WrongCount 0 made)
+  operation_comes links s t o xs ys (zip_one v u vs us h rest) waits made low =
+      let none = no_handlers links s t v u made.objects h in
+      let s2 = going_to (Looking o [] (v ∷ vs)) s in
+      let t2 = going (LookingAt o [] (u ∷ us)) t in
+      let c = here_comes links s2 t2 (entry_moves cps p laid Low) (record { links = links; made = remade cps w links s s2 t t2 made refl refl refl refl refl refl; doing = same_look o (v ∷ vs) (u ∷ us) (zip_one v u vs us h rest) waits }) low in
+      let d : Comes s2 t t2 (entry_moves cps p laid Low) = record { arrives = c.arrives; moves = c.moves; low = c.low } in
+      comes_by (operated_to o (v ∷ vs) s) s2 t (operated p o (u ∷ us) t) t2 (entry_moves cps p laid Low) (ap (λ hs. going_to (Looking o hs (v ∷ vs)) s) none.0) (ap (λ ms. going (LookingAt o ms (u ∷ us)) t) none.1) d
+
+  no_procedure : (links : Links) (s : State) (t : FrameState) → SameMade cps w links s t → LowBelow cps p laid Low t → Comes (faulted_to NotProcedure s) t (faulted NotProcedure t) (entry_moves cps p laid Low)
+  no_procedure links s t made low = stands_come (faulted_to NotProcedure s) t (faulted NotProcedure t) 0 (entry_moves cps p laid Low) (omega arith) low (fault_stands cps p laid Low links s t NotProcedure 0 made)
+
+  closure_comes : (links : Links) (s : State) (t : FrameState) (i j : ℕ) (xs ys : List Val) → IsTied links.closures i j → Zipped (SameVal links) xs ys → Waits w links t.frames [] s.waiting t.live → SameMade cps w links s t → LowBelow cps p laid Low t
+      → Comes (called_to P (ClosureV i) xs s) t (called p (ClosureV j) ys t) (entry_moves cps p laid Low)
+  closure_comes links s t i j xs ys tie same waits made low =
+      let at = made.closures i j tie in
+      let vs = Lasting (ClosureV j) ∷ map Lasting ys in
+      comes_by (called_to P (ClosureV i) xs s) (entered_to P at.left xs s) t (called p (ClosureV j) ys t) (entered p at.right.code vs t) (entry_moves cps p laid Low)
+      (ap (λ o. or_unbound o s (λ c. entered_to P c xs s)) at.is)
+      (ap (λ o. or_wrong o t (λ c. entered p c.code vs t)) at.at)
+      (stands_come (entered_to P at.left xs s) t (entered p at.right.code vs t) (entry_moves cps p laid Low) (entry_moves cps p laid Low) (omega arith) low
+      (entry_stands cps p laid Low links s t at.left at.right.code (ClosureV j) xs ys at.same.runs (in_record j at.right refl at.at at.same.captured) same waits made low))
+
+  pub called_comes : (links : Links) (s : State) (t : FrameState) (f g : Val) (xs ys : List Val) → SameVal links f g → Zipped (SameVal links) xs ys → Waits w links t.frames [] s.waiting t.live → SameMade cps w links s t → LowBelow cps p laid Low t
+      → ((st : Store) (n : ℕ) → st.heap ≤ (called_to P f xs s).store.heap → n ≤ length t.live → Low st.heap n) → Comes (called_to P f xs s) t (called p g ys t) (entry_moves cps p laid Low)
+  called_comes links s t f g xs ys (closure i j h) same waits made low lows = closure_comes links s t i j xs ys h same waits made low
+  called_comes links s t f g xs ys (object i j h) same waits made low lows = absurd (in_none (i, j) (subst (λ xs. IsIn (i, j) xs) made.objects h))
+  called_comes links s t f g xs ys (escape i j h) same waits made low lows = absurd (in_none (i, j) (subst (λ xs. IsIn (i, j) xs) made.escapes h))
+  called_comes links s t f g xs ys (operation o) same waits made low lows = operation_comes links s t o xs ys same waits made low
+  called_comes links s t f g xs ys (builtin b) same waits made low lows = row_comes links s t (row b xs s.store) (row b ys t.store) (row_same links made.one b xs ys s.store t.store same made.store) waits made low lows
+  called_comes links s t f g xs ys (fix z) same waits made low lows = no_procedure links s t made low
+  called_comes links s t f g xs ys (char c) same waits made low lows = no_procedure links s t made low
+  called_comes links s t f g xs ys nil same waits made low lows = no_procedure links s t made low
+  called_comes links s t f g xs ys truth same waits made low lows = no_procedure links s t made low
+  called_comes links s t f g xs ys (symbol n) same waits made low lows = no_procedure links s t made low
+  called_comes links s t f g xs ys (string x) same waits made low lows = no_procedure links s t made low
+  called_comes links s t f g xs ys (pair k) same waits made low lows = no_procedure links s t made low
+  called_comes links s t f g xs ys (vector k) same waits made low lows = no_procedure links s t made low
+
+  -- ---- a default
+
+  default_comes : (links : Links) (s : State) (t : FrameState) (o : ℕ) (xs ys : List Val) (c : Option Closure) (code : Option ℕ) → SameOption (SameDefault cps) c code → Zipped (SameVal links) xs ys → Waits w links t.frames [] s.waiting t.live → SameMade cps w links s t → LowBelow cps p laid Low t
+      → Comes (defaulted_to c xs s) t (defaulted p code o ys t) (entry_moves cps p laid Low)
+  default_comes links s t o xs ys c code neither same waits made low = stands_come (faulted_to NotHandled s) t (faulted NotHandled t) 0 (entry_moves cps p laid Low) (omega arith) low (fault_stands cps p laid Low links s t NotHandled 0 made)
+  default_comes links s t o xs ys c code (both d k h) same waits made low =
+      let first = laid.firsts k h.within in
+      let s2 = going_to (Entering d xs) s in
+      let t2 = going (EnteringAt k (Lasting (OperationV o) ∷ map Lasting ys)) t in
+      let r = here_comes links s2 t2 (entry_moves cps p laid Low) (record { links = links; made = remade cps w links s s2 t t2 made refl refl refl refl refl refl; doing = same_entry d k (OperationV o) xs ys (subst (λ l. IsFor w k (CodeOf l)) (sym h.lam) first.0) (ap w.needs h.lam ∙ first.1) same waits }) low in
+      record { arrives = r.arrives; moves = r.moves; low = r.low }
+
+  pub looked_comes : (links : Links) (s : State) (t : FrameState) (o : ℕ) (xs ys : List Val) → Zipped (SameVal links) xs ys → Waits w links t.frames [] s.waiting t.live → SameMade cps w links s t → LowBelow cps p laid Low t
+      → Comes (looked_to P o [] xs s) t (looked p o [] ys t) (entry_moves cps p laid Low)
+  looked_comes links s t o xs ys same waits made low =
+      default_comes links s t o xs ys (default_of cps o) (code_of_default p.shared o) (subst (λ sh. SameOption (SameDefault cps) (default_of cps o) (code_of_default sh o)) (sym laid.shared) (default_same cps o)) same waits made low
+
+  pub entering_comes : (links : Links) (s : State) (t : FrameState) (c : Closure) (code : ℕ) (self : Val) (xs ys : List Val) → IsFor w code (CodeOf c.lam) → w.needs c.lam ≡ [] → Zipped (SameVal links) xs ys → Waits w links t.frames [] s.waiting t.live → SameMade cps w links s t
+      → LowBelow cps p laid Low t → Comes (entered_to P c xs s) t (entered p code (Lasting self ∷ map Lasting ys) t) (entry_moves cps p laid Low)
+  entering_comes links s t c code self xs ys for none same waits made low =
+      stands_come (entered_to P c xs s) t (entered p code (Lasting self ∷ map Lasting ys) t) (entry_moves cps p laid Low) (entry_moves cps p laid Low) (omega arith) low (entry_stands cps p laid Low links s t c code self xs ys for (needs_none none) same waits made low)
