@@ -11,3 +11,6 @@ pub mod Arriving
 pub mod Handing
 pub mod Calling
 pub mod Stepping
+pub mod Staged
+pub mod HaltTerm
+pub mod GiveTerm

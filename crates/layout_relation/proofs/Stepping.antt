@@ -19,7 +19,7 @@ use Rattle.t_prim.specs.Table.{row}
 use Rattle.cps_ir.specs.declared.terms.Cps.{Cps}
 use Rattle.cps_ir.specs.Parts.{is_proc, is_procedure, global_lams, first_lams}
 use Rattle.cps_ir.specs.States.{Scope, Control, At, Looking, Entering, Ended, State, Program, marked, all_escape, Closure, Handler, Waiting, Back, Live, Pending, going as going_to, faulted as faulted_to, with_store as store_to, with_waiting}
-use Rattle.cps_ir.specs.Giving.{or_unbound, after_row as row_to, returned}
+use Rattle.cps_ir.specs.Giving.{Way, Out, On, Lost, or_unbound, after_row as row_to, returned, given}
 use Rattle.cps_ir.specs.Calls.{entered as entered_to, called as called_to, operated as operated_to, looked as looked_to, default_at, default_of, handlers_at, defaulted as defaulted_to}
 use Rattle.frame_ir.specs.declared.forms.Frames.{Frames}
 use Rattle.frame_ir.specs.Values.{Value, Lasting, Closure as FrameClosure}
@@ -133,6 +133,11 @@ module _ (cps : Cps) (p : Frames) (laid : IsLaidOut cps p) (Low : ℕ → ℕ �
   returned_store [] v s = refl
   returned_store (Back pending ∷ waiting) v s = ap (λ x. x.store) (bound_to cps p laid Low pending.param v pending.scope (with_waiting s waiting) (λ scope t. going_to (At pending.body scope) t))
   returned_store (Live i own ∷ waiting) v s = refl
+
+  pub given_store : (to : Way) (v : Val) (s : State) → (given P to v s).store ≡ s.store
+  given_store Out v s = returned_store s.waiting v s
+  given_store (On pending) v s = ap (λ x. x.store) (bound_to cps p laid Low pending.param v pending.scope s (λ scope t. going_to (At pending.body scope) t))
+  given_store Lost v s = refl
 
   -- a builtin
   row_comes : (links : Links) (s : State) (t : FrameState) (r q : Row) → SameRow links r q → Waits w links t.frames [] s.waiting t.live → SameMade cps w links s t → LowBelow cps p laid Low t
