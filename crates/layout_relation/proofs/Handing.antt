@@ -93,7 +93,7 @@ module _ (cps : Cps) (p : Frames) (laid : IsLaidOut cps p) (Low : ℕ → ℕ �
           zip_one y v us ws (record { meant = h.meant; is = other_meant x y meant scope (eqb_flip y x (apart y (first y us))) ∙ h.is; same = h.same })
           (by us ws (λ z i. apart z (later z y us i)) rest)
 
-  captured_there : (links : Links) (scope inner : Scope) (xs : List ℕ) (vs : List Value) → ((x : ℕ) → IsIn x xs → meant_by inner x ≡ meant_by scope x) → AreCaptured w links scope xs vs → AreCaptured w links inner xs vs
+  pub captured_there : (links : Links) (scope inner : Scope) (xs : List ℕ) (vs : List Value) → ((x : ℕ) → IsIn x xs → meant_by inner x ≡ meant_by scope x) → AreCaptured w links scope xs vs → AreCaptured w links inner xs vs
   captured_there links scope inner xs vs same zip_none = zip_none
   captured_there links scope inner xs vs same (zip_one x v us ws h rest) =
       zip_one x v us ws (record { meant = h.meant; is = same x (first x us) ∙ h.is; same = h.same }) (captured_there links scope inner us ws (λ z i. same z (later z x us i)) rest)
@@ -101,7 +101,7 @@ module _ (cps : Cps) (p : Frames) (laid : IsLaidOut cps p) (Low : ℕ → ℕ �
   pub direct_same : (links : Links) (x : ℕ) (a b : Val) → w.celled x ≡ false → SameVal links a b → SameMeant links (w.celled x) (Direct a) (Lasting b)
   direct_same links x a b e h = subst (λ c. SameMeant links c (Direct a) (Lasting b)) (sym e) (value a b h)
 
-  found_first : (x : ℕ) (meant : Meant) (scope : Scope) → meant_by (Bound x meant ∷ scope) x ≡ Some meant
+  pub found_first : (x : ℕ) (meant : Meant) (scope : Scope) → meant_by (Bound x meant ∷ scope) x ≡ Some meant
   found_first x meant scope = ap (λ b. if b then Some meant else meant_by scope x) (eqb_same x)
 
   -- ---- on to a term
@@ -242,7 +242,7 @@ module _ (cps : Cps) (p : Frames) (laid : IsLaidOut cps p) (Low : ℕ → ℕ �
       reaches_step cps p w Low s x (returned_to p b y) n return_moves top one (let m = back.moves in omega (arith, m, few)) (subst (λ st. Low st.heap (length (returned_to p b y).live)) (sym back.store) (subst (λ l. Low y.store.heap (length l)) (sym back.live) (low_here y low))) back.arrives
 
   -- a term begins where the frames stand
-  here_reaches : (links : Links) (s : State) (u : FrameState) (c : Context) (t body : ℕ) (scope : Scope) (ops : List FrameOp) (last : FrameEnd) (env : Env) → Lays cps w c body ops last → HoldAll w links scope env c.vars → Leads scope c.exits
+  pub here_reaches : (links : Links) (s : State) (u : FrameState) (c : Context) (t body : ℕ) (scope : Scope) (ops : List FrameOp) (last : FrameEnd) (env : Env) → Lays cps w c body ops last → HoldAll w links scope env c.vars → Leads scope c.exits
       → Waits w links u.frames c.catches s.waiting u.live → SameMade cps w links s u → s.control ≡ At body scope → w.rank body < w.rank t → Reaches cps p w Low s (going (Running ops last env) u) give_moves (w.rank t)
   here_reaches links s u c t body scope ops last env laying h leads waits made control lower = record {
     arrives = record {

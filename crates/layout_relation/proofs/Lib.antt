@@ -14,3 +14,6 @@ pub mod Stepping
 pub mod Staged
 pub mod HaltTerm
 pub mod GiveTerm
+pub mod IfTerm
+pub mod JoinTerm
+pub mod CallTerm

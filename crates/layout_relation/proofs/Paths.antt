@@ -40,3 +40,6 @@ module _ (p : Frames) (Low : ℕ → ℕ → Type 0) where
         (λ below. a.low i g below)
         (cases_lt a.count i);
   }
+
+  pub more_path : (s u : State) (m n : ℕ) → m ≤ n → Path p Low s u m → Path p Low s u n
+  more_path s u m n le path = record { count = path.count; goes = path.goes; moves = let a = path.moves in omega (arith, a, le); low = path.low }
