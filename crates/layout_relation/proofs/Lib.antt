@@ -17,3 +17,4 @@ pub mod GiveTerm
 pub mod IfTerm
 pub mod JoinTerm
 pub mod CallTerm
+pub mod PrimTerm
