@@ -37,7 +37,7 @@ use Rattle.layout_relation.proofs.Arriving.{bound_hold, bound_later, in_numbers,
 use Rattle.layout_relation.proofs.Handing.{LowBelow, bound_to, direct_same, captured_inside}
 
 -- parameters with operands, in the scope
-abbrev bounds : List Var → List Val → Scope → Scope
+abbrev pub bounds : List Var → List Val → Scope → Scope
 bounds [] vs scope = scope
 bounds (x ∷ xs) [] scope = scope
 bounds (x ∷ xs) (v ∷ vs) scope = bounds xs vs (Bound x.0 (Direct v) ∷ scope)

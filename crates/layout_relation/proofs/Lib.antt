@@ -18,3 +18,5 @@ pub mod IfTerm
 pub mod JoinTerm
 pub mod CallTerm
 pub mod PrimTerm
+pub mod LabelsTerm
+pub mod SameMoves
