@@ -33,7 +33,7 @@ use Rattle.layout_relation.proofs.Scopes.{eqb_flip, hold_set}
 use Rattle.layout_relation.proofs.Made.{Closes, Makes, makes_none, makes_one}
 use Rattle.layout_relation.proofs.Making.{address_other, address_first}
 
-const_same : (links : Links) (c : Const) → SameVal links (val_of c) (val_of c)
+pub const_same : (links : Links) (c : Const) → SameVal links (val_of c) (val_of c)
 const_same links (Constant.Fix x) = fix x
 const_same links (Constant.Char c) = char c
 const_same links Constant.Nil = nil

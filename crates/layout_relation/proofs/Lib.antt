@@ -20,3 +20,5 @@ pub mod CallTerm
 pub mod PrimTerm
 pub mod LabelsTerm
 pub mod SameMoves
+pub mod Matching
+pub mod Starting

@@ -58,7 +58,7 @@ snd_same a b c d e = ap {A = ℕ × ℕ} {B = ℕ} (λ p. p.1) e
 later_tie : (n i j : ℕ) (p : ℕ × ℕ) → NewTie n (suc i) (suc j) p.0 p.1 → NewTie (suc n) i j p.0 p.1
 later_tie n i j p t = let w = t.within in let a = t.left in let b = t.right in record { place = suc t.place; within = omega (arith, w); left = omega (arith, a); right = omega (arith, b) }
 
-new_tie : {X : Type 0} (xs : List X) (i j : ℕ) (p : ℕ × ℕ) → IsIn p (ties i j xs) → NewTie (length xs) i j p.0 p.1
+pub new_tie : {X : Type 0} (xs : List X) (i j : ℕ) (p : ℕ × ℕ) → IsIn p (ties i j xs) → NewTie (length xs) i j p.0 p.1
 new_tie [] i j p h = absurd (in_none p h)
 new_tie (x ∷ xs) i j p h = ⊎_elim
     (λ e. record { place = 0; within = omega arith; left = let same = ap {A = ℕ × ℕ} {B = ℕ} (λ q. q.0) e in omega (arith, same); right = let same = ap {A = ℕ × ℕ} {B = ℕ} (λ q. q.1) e in omega (arith, same) })
