@@ -22,3 +22,4 @@ pub mod LabelsTerm
 pub mod SameMoves
 pub mod Matching
 pub mod Starting
+pub mod Keeping
