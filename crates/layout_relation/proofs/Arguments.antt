@@ -1,11 +1,10 @@
 -- Arguments: the closures that are made for them, and that their values are the same.
-use Rattle.std.proofs.Common.{◌≡◌, ℕ, zero, suc, ◌+◌, ◌*◌, ◌≤◌, ◌<◌, ◌==◌, nat_lt, Bool, true, false, ◌||◌, if◌then◌else◌, List, [], ◌∷◌, ◌++◌, length, map, Option, Some, None, slice_get, refl, sym, ap, subst, ◌∙◌, arith, append_assoc, append-nil}
+use Rattle.std.proofs.Common.{◌≡◌, ℕ, suc, ◌+◌, ◌≤◌, ◌<◌, ◌==◌, Bool, true, false, ◌||◌, List, [], ◌∷◌, ◌++◌, length, Some, slice_get, refl, sym, ap, subst, ◌∙◌, arith, append_assoc, append-nil}
 use Rattle.std.specs.Prelude.{option_and_then, sum_by}
 use Rattle.std.specs.Option.{option_map}
-use Rattle.std.specs.List.{AllByRecursion}
 use Rattle.std.proofs.lemmas.List.Sums.{sum_by-cons}
 use Rattle.t_base.specs.declared.basics.Var.{Var}
-use Rattle.t_prim.specs.Values.{Val, ClosureV, OperationV, BuiltinV, val_of, FixV, NilV, CharV, TrueV, SymbolV, StringV, Literal, PairV}
+use Rattle.t_prim.specs.Values.{Val, ClosureV, OperationV, BuiltinV, val_of, Literal}
 use Rattle.t_base.specs.declared.shared_parts.Const.{Const}
 use Rattle.t_base.specs.declared.shared_parts.Const.TheVariants as Constant
 use Rattle.cps_ir.specs.declared.args.Arg.{Arg}
@@ -13,25 +12,24 @@ use Rattle.cps_ir.specs.declared.args.Arg.TheVariants as Argument
 use Rattle.cps_ir.specs.declared.terms.Cps.{Cps}
 use Rattle.cps_ir.specs.Reaches.{is_in}
 use Rattle.cps_ir.specs.States.{Meant, Direct, Scope, Closure, Program, marked, all_escape, State}
-use Rattle.cps_ir.specs.Giving.{lam_words, or_unbound, meant_by, value_of as meant_value, with_arg, with_args, closing}
+use Rattle.cps_ir.specs.Giving.{lam_words, or_unbound, value_of as meant_value, with_arg, with_args, closing}
 use Rattle.cps_ir.specs.Running.{closures_of}
 use Rattle.frame_ir.specs.declared.args.Arg.{Arg as FrameArg}
 use Rattle.frame_ir.specs.declared.args.Arg.TheVariants as FrameArgument
 use Rattle.frame_ir.specs.declared.forms.Place.TheVariants as At
 use Rattle.frame_ir.specs.declared.forms.FrameOp.{FrameOp}
 use Rattle.frame_ir.specs.declared.forms.FrameOp.TheVariants as Op
-use Rattle.frame_ir.specs.Values.{Value, Lasting, Env, value_at, lasting_of}
-use Rattle.frame_ir.specs.Arguments.{code_of_global, value_of, lasting_value, lasting_values}
+use Rattle.frame_ir.specs.Values.{Value, Lasting, Env, lasting_of}
+use Rattle.frame_ir.specs.Arguments.{code_of_global, lasting_value, lasting_values}
 use Rattle.frame_ir.specs.Groups.{makings, with_addresses}
 use Rattle.layout_relation.specs.Links.{IsIn, Zipped, zip_none, zip_one, IsTied, Links, Extends, SameVal, fix, char, nil, truth, symbol, string, pair, closure, operation, builtin, SameMeant, value, cell}
-use Rattle.layout_relation.specs.Contexts.{IsUnused}
 use Rattle.layout_relation.specs.Laid.{Sketch, MakesClosure, made_by, SameArg, same_const, same_var, same_global, same_builtin, same_op, Prepares, prepares_none, prepares_same, prepares_closure}
-use Rattle.layout_relation.specs.Related.{Holds, HoldAll}
+use Rattle.layout_relation.specs.Related.{HoldAll}
 use Rattle.layout_relation.proofs.Lists.{all_in}
 use Rattle.layout_relation.proofs.Growing.{val_grows}
 use Rattle.layout_relation.proofs.Scopes.{eqb_flip, hold_set}
 use Rattle.layout_relation.proofs.Made.{Closes, Makes, makes_none, makes_one}
-use Rattle.layout_relation.proofs.Making.{address_other, address_first}
+use Rattle.layout_relation.proofs.Making.{address_first}
 
 pub const_same : (links : Links) (c : Const) → SameVal links (val_of c) (val_of c)
 const_same links (Constant.Fix x) = fix x

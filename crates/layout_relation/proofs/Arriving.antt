@@ -1,16 +1,13 @@
 -- The frames arrive where a term begins: by a jump, or behind what is fetched from a frame or a closure.
-use Rattle.std.proofs.Common.{◌≡◌, ℕ, zero, suc, ◌+◌, ◌*◌, ◌≤◌, ◌<◌, ◌==◌, Bool, true, false, if◌then◌else◌, List, [], ◌∷◌, ◌++◌, length, map, Option, Some, None, slice_get, refl, sym, ap, subst, ◌∙◌, arith, ⊎_elim}
+use Rattle.std.proofs.Common.{◌≡◌, ℕ, suc, ◌+◌, ◌*◌, ◌≤◌, ◌==◌, false, if◌then◌else◌, List, [], ◌∷◌, ◌++◌, length, Option, Some, None, slice_get, refl, sym, ap, subst, ◌∙◌, arith, ⊎_elim}
 use Rattle.std.specs.Prelude.{option_and_then, IsSomeAnd}
 use Rattle.std.specs.Option.{option_map}
-use Rattle.std.specs.List.{AllByRecursion}
-use Rattle.std.proofs.lemmas.Bool.{true≢false, eq-eqb}
+use Rattle.std.proofs.lemmas.Bool.{eq-eqb}
 use Rattle.t_base.specs.declared.basics.Var.{Var}
 use Rattle.t_prim.specs.Values.{Val, ClosureV}
 use Rattle.cps_ir.specs.declared.terms.Cps.{Cps}
-use Rattle.cps_ir.specs.Reaches.{is_in}
-use Rattle.cps_ir.specs.States.{Meant, Direct, Scope, At, State}
+use Rattle.cps_ir.specs.States.{Scope, At, State}
 use Rattle.frame_ir.specs.declared.args.Arg.{Arg as FrameArg}
-use Rattle.frame_ir.specs.declared.args.Arg.TheVariants as FrameArgument
 use Rattle.frame_ir.specs.declared.forms.FrameOp.{FrameOp}
 use Rattle.frame_ir.specs.declared.forms.FrameOp.TheVariants as Op
 use Rattle.frame_ir.specs.declared.forms.FrameEnd.{FrameEnd}
@@ -20,18 +17,17 @@ use Rattle.frame_ir.specs.declared.forms.Frames.{Frames}
 use Rattle.t_base.specs.declared.shared_parts.Shared.{Shared}
 use Rattle.frame_ir.specs.Values.{Value, Lasting, InFrame, CellAt, Frame, Closure as FrameClosure, Env, value_at, lasting_of, value_in, captured_in, kept_or}
 use Rattle.frame_ir.specs.States.{Running, State as FrameState, going, counted, wrong, or_wrong, youngest}
-use Rattle.frame_ir.specs.Arguments.{value_of, lasting_value, values_of, kept_values, bound}
+use Rattle.frame_ir.specs.Arguments.{values_of, kept_values, bound}
 use Rattle.frame_ir.specs.Calls.{jumped, begun}
 use Rattle.frame_ir.specs.Operations.{captured_by}
 use Rattle.frame_ir.specs.Running.{step}
-use Rattle.layout_relation.specs.Links.{IsIn, first, later, Zipped, zip_none, zip_one, Links, SameVal, SameMeant, value}
-use Rattle.layout_relation.specs.Contexts.{Context, paired, IsUnused, Start, Purpose, Begins}
-use Rattle.layout_relation.specs.Laid.{Sketch, IsFor, numbers, AreDistinct, AreHeld, variables, Fetches, fetches_none, fetches_one, BlockFits, IsLaidOut}
-use Rattle.layout_relation.specs.Related.{Leads, Holds, HoldAll, IsCaptured, AreCaptured, Waits, SameMade, SameDoing, same_term, Related}
+use Rattle.layout_relation.specs.Links.{IsIn, first, later, zip_none, zip_one, Links}
+use Rattle.layout_relation.specs.Contexts.{paired, IsUnused, Start, Purpose, Begins}
+use Rattle.layout_relation.specs.Laid.{Sketch, IsFor, numbers, AreDistinct, variables, Fetches, fetches_none, fetches_one, BlockFits, IsLaidOut}
+use Rattle.layout_relation.specs.Related.{Leads, HoldAll, IsCaptured, AreCaptured, Waits, SameMade, SameDoing, same_term, Related}
 use Rattle.layout_relation.proofs.Lists.{zipped_at, zipped_length, in_is_not, in_cases, in_none}
 use Rattle.layout_relation.proofs.Scopes.{eqb_flip, eqb_same, other_value, hold_set, hold_more}
 use Rattle.layout_relation.proofs.Paths.{Path, stays, steps, follows}
-use Rattle.layout_relation.proofs.Making.{Kept, kept_all}
 use Rattle.layout_relation.proofs.Preparing.{remade}
 
 -- ---- parameters
@@ -134,19 +130,21 @@ module _ (cps : Cps) (p : Frames) (laid : IsLaidOut cps p) (Low : ℕ → ℕ �
       let t = going (Running [] (Last.Jump block args) env) u in
       let end = going (Running b.block.ops.items b.block.last (bound b.block.params vs)) (counted (1 + length args) u) in
       let one : step p t ≡ end = ap (λ o. or_wrong o t (λ vs. jumped p block vs (counted (1 + length args) t))) reads
-          ∙ ap (λ o. or_wrong o (counted (1 + length args) t) (λ b. if length b.params == length vs then begun b (bound b.params vs) (counted (1 + length args) t) else wrong (counted (1 + length args) t))) b.is
-          ∙ ap (λ x. if x then begun b.block (bound b.block.params vs) (counted (1 + length args) t) else wrong (counted (1 + length args) t)) (eq-eqb (length b.block.params) (length vs) n) in
-      (record {
-        end = end;
-        path = steps p Low t end (1 + length args) one (omega arith) low;
-        related = record {
-          links = links;
-          made = remade cps w links s s u end made refl refl refl refl refl refl;
-          doing = subst (λ c. SameDoing cps w links u.frames s.waiting u.live c (Running b.block.ops.items b.block.last (bound b.block.params vs))) (sym control)
-              (same_term (record { vars = paired start.vars b.block.params; exits = start.exits; catches = start.catches }) start.term scope b.block.ops.items b.block.last (bound b.block.params vs) b.fits.lays
-              (bound_hold w links scope start.vars vs b.block.params captured b.fits.count b.fits.distinct) leads waits);
-        };
-      }, omega arith)
+      ∙ ap (λ o. or_wrong o (counted (1 + length args) t) (λ b. if length b.params == length vs then begun b (bound b.params vs) (counted (1 + length args) t) else wrong (counted (1 + length args) t))) b.is
+      ∙ ap (λ x. if x then begun b.block (bound b.block.params vs) (counted (1 + length args) t) else wrong (counted (1 + length args) t)) (eq-eqb (length b.block.params) (length vs) n) in (
+        record {
+          end = end;
+          path = steps p Low t end (1 + length args) one (omega arith) low;
+          related = record {
+            links = links;
+            made = remade cps w links s s u end made refl refl refl refl refl refl;
+            doing = subst (λ c. SameDoing cps w links u.frames s.waiting u.live c (Running b.block.ops.items b.block.last (bound b.block.params vs))) (sym control)
+                (same_term (record { vars = paired start.vars b.block.params; exits = start.exits; catches = start.catches }) start.term scope b.block.ops.items b.block.last (bound b.block.params vs) b.fits.lays
+                (bound_hold w links scope start.vars vs b.block.params captured b.fits.count b.fits.distinct) leads waits);
+          };
+        },
+        omega arith,
+      )
 
   -- ---- what is fetched
 

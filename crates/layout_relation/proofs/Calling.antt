@@ -1,8 +1,7 @@
 -- Calls: what a procedure does at operands, on both sides.
-use Rattle.std.proofs.Common.{◌≡◌, ℕ, zero, suc, ◌+◌, ◌*◌, ◌≤◌, ◌<◌, ◌==◌, ◌⊎◌, Bool, true, false, if◌then◌else◌, List, [], ◌∷◌, ◌++◌, length, map, Option, Some, None, slice_get, refl, sym, ap, subst, ◌∙◌, arith, ⊎_elim, inl, inr, length-append, append-nil}
-use Rattle.std.specs.Prelude.{option_and_then, IsSomeAnd}
+use Rattle.std.proofs.Common.{◌≡◌, ℕ, suc, ◌+◌, ◌*◌, ◌==◌, Bool, true, false, if◌then◌else◌, List, [], ◌∷◌, ◌++◌, length, map, Some, None, slice_get, refl, sym, ap, subst, ◌∙◌, arith, length-append, append-nil}
 use Rattle.std.specs.List.{AllByRecursion}
-use Rattle.std.proofs.lemmas.Bool.{true≢false, eq-eqb, ne_eqb, eqb-true, eqb-false}
+use Rattle.std.proofs.lemmas.Bool.{eq-eqb, ne_eqb, eqb-true, eqb-false}
 use Rattle.program_runs.specs.Runs as runs
 use Rattle.t_base.specs.declared.basics.Var.{Var}
 use Rattle.t_base.specs.declared.faults.Fault.{Fault}
@@ -11,26 +10,23 @@ use Rattle.t_prim.specs.Values.{Val, ClosureV}
 use Rattle.cps_ir.specs.declared.terms.Lam.{Lam}
 use Rattle.cps_ir.specs.declared.terms.Cps.{Cps}
 use Rattle.cps_ir.specs.Reaches.{is_in}
-use Rattle.cps_ir.specs.States.{Meant, Direct, Binding, Bound, Begun, Scope, Control, At, Ended, State, Program, marked, all_escape, Closure, going as going_to, faulted as faulted_to}
-use Rattle.cps_ir.specs.Giving.{meant_by, binding, binding_all, or_broken}
+use Rattle.cps_ir.specs.States.{Direct, Bound, Begun, Scope, At, State, Program, marked, all_escape, Closure, going as going_to, faulted as faulted_to}
+use Rattle.cps_ir.specs.Giving.{meant_by, binding_all, or_broken}
 use Rattle.cps_ir.specs.Calls.{begun as begun_to, entered as entered_to}
-use Rattle.frame_ir.specs.declared.args.Arg.{Arg as FrameArg}
 use Rattle.frame_ir.specs.declared.forms.FrameOp.{FrameOp}
 use Rattle.frame_ir.specs.declared.forms.FrameOp.TheVariants as Op
-use Rattle.frame_ir.specs.declared.forms.FrameEnd.TheVariants as Last
 use Rattle.frame_ir.specs.declared.forms.Block.{Block}
 use Rattle.frame_ir.specs.declared.forms.Frames.{Frames}
 use Rattle.frame_ir.specs.Values.{Value, Lasting, Closure as FrameClosure, Env, value_at}
-use Rattle.frame_ir.specs.States.{Running, Ended as EndedAt, State as FrameState, going, counted, wrong, faulted, or_wrong}
+use Rattle.frame_ir.specs.States.{Running, Ended as EndedAt, State as FrameState, going, faulted, or_wrong}
 use Rattle.frame_ir.specs.Arguments.{bound}
 use Rattle.frame_ir.specs.Calls.{begun, entered}
-use Rattle.layout_relation.specs.Links.{IsIn, first, later, Zipped, zip_none, zip_one, Links, SameVal, SameMeant}
-use Rattle.layout_relation.specs.Contexts.{Exits, OwnExit, IsUnused, paired, Start, CodeOf, Begins}
-use Rattle.layout_relation.specs.Laid.{Sketch, IsFor, numbers, AreDistinct, AreHeld, variables, most_needs, Fetches, fetches_none, fetches_one, CodeFits, IsLaidOut}
-use Rattle.layout_relation.specs.Related.{Leads, leads_own, leads_bound, HoldAll, IsCaptured, AreCaptured, Waits, SameMade, SameDoing, same_end, Related}
-use Rattle.layout_relation.proofs.Lists.{zipped_length, zipped_more, zipped_join, in_is_not, is_in_head}
-use Rattle.layout_relation.proofs.Scopes.{other_meant, eqb_flip, eqb_same}
-use Rattle.layout_relation.proofs.Paths.{Path, follows}
+use Rattle.layout_relation.specs.Links.{IsIn, Zipped, zip_none, zip_one, Links, SameVal}
+use Rattle.layout_relation.specs.Contexts.{OwnExit, paired, Start, CodeOf}
+use Rattle.layout_relation.specs.Laid.{Sketch, IsFor, numbers, AreDistinct, variables, Fetches, fetches_none, fetches_one, CodeFits, IsLaidOut}
+use Rattle.layout_relation.specs.Related.{Leads, leads_own, leads_bound, HoldAll, IsCaptured, AreCaptured, Waits, SameMade, same_end}
+use Rattle.layout_relation.proofs.Lists.{zipped_length, zipped_more, in_is_not, is_in_head}
+use Rattle.layout_relation.proofs.Scopes.{other_meant, eqb_same}
 use Rattle.layout_relation.proofs.Making.{kept_all}
 use Rattle.layout_relation.proofs.Preparing.{remade}
 use Rattle.layout_relation.proofs.Arriving.{bound_hold, bound_later, in_numbers, variables_read, variables_count, block_at, Arrives, arrives_after, arrives_more, jump_arrives, Fetched, fetched_none, closure_fetches}
@@ -156,8 +152,8 @@ module _ (cps : Cps) (p : Frames) (laid : IsLaidOut cps p) (Low : ℕ → ℕ �
       let args = variables fits.ys in
       let lows = subst (λ st. Low st.heap (length u.live)) (sym f.counts.store) (subst (λ x. Low t.store.heap (length x)) (sym f.counts.live) (low (length t.live) (omega arith))) in
       let jumps = jump_arrives cps p laid Low links s2 u scope f.env2 fits.body start args k.values fits.begins (variables_read p.shared f.env2 fits.ys ∙ k.are) k.captured leads
-          (subst (λ fs. Waits w links fs [] s.waiting u.live) (sym f.counts.frames) (subst (λ x. Waits w links t.frames [] s.waiting x) (sym f.counts.live) waits))
-          (remade cps w links s s2 t u made refl refl refl f.counts.store f.counts.closures f.counts.globals) refl lows in
+      (subst (λ fs. Waits w links fs [] s.waiting u.live) (sym f.counts.frames) (subst (λ x. Waits w links t.frames [] s.waiting x) (sym f.counts.live) waits))
+      (remade cps w links s s2 t u made refl refl refl f.counts.store f.counts.closures f.counts.globals) refl lows in
       let here = subst (λ x. Arrives cps p w Low s2 (going (Running [] x f.env2) u) (1 + length args)) (sym fits.goes) jumps.0 in
       let whole = arrives_after cps p w Low s2 (going (Running (b.ops.items ++ []) b.last env) t) (going (Running [] b.last f.env2) u) (2 * length b.ops.items) (1 + length args) f.path here in
       let total = subst (λ os. Arrives cps p w Low s2 (going (Running os b.last env) t) (2 * length b.ops.items + (1 + length args))) (append-nil b.ops.items) whole in
@@ -221,10 +217,10 @@ module _ (cps : Cps) (p : Frames) (laid : IsLaidOut cps p) (Low : ℕ → ℕ �
       let n = length fits.lam.params == length xs in
       let left : entered_to P c xs s ≡ (if n then begun_to P fits.lam c xs s else faulted_to WrongCount s) = ap (λ o. or_broken o s (λ lam. if length lam.params == length xs then begun_to P lam c xs s else faulted_to WrongCount s)) fits.is in
       let same_test : (length at.block.params == length vs) ≡ n =
-          let a = ap length fits.takes in let b = fits.count in let d = map_count Lasting ys in let e = zipped_length _ _ _ same in
-          counts_alike (length fits.lam.params) (length xs) (length at.block.params) (length vs) n refl (λ h. omega (arith, a, b, d, e, h)) (λ h. omega (arith, a, b, d, e, h)) in
+      let a = ap length fits.takes in let b = fits.count in let d = map_count Lasting ys in let e = zipped_length _ _ _ same in
+      counts_alike (length fits.lam.params) (length xs) (length at.block.params) (length vs) n refl (λ h. omega (arith, a, b, d, e, h)) (λ h. omega (arith, a, b, d, e, h)) in
       let right : entered p code vs t ≡ (if n then begun at.block (bound at.block.params vs) t else faulted WrongCount t) =
-          ap (λ o. or_wrong o t (λ b. if length b.params == length vs then begun b (bound b.params vs) t else faulted WrongCount t)) at.is
-          ∙ ap (λ x. if x then begun at.block (bound at.block.params vs) t else faulted WrongCount t) same_test in
+      ap (λ o. or_wrong o t (λ b. if length b.params == length vs then begun b (bound b.params vs) t else faulted WrongCount t)) at.is
+      ∙ ap (λ x. if x then begun at.block (bound at.block.params vs) t else faulted WrongCount t) same_test in
       stands_by (entered_to P c xs s) (if n then begun_to P fits.lam c xs s else faulted_to WrongCount s) t (entered p code vs t) (if n then begun at.block (bound at.block.params vs) t else faulted WrongCount t) entry_moves left right
       (wrong_count links s t c at.block fits self xs ys source same waits made low n refl same_test)

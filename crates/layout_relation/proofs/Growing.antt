@@ -1,13 +1,13 @@
 -- What is the same stays the same when more is tied and more frames are pushed.
-use Rattle.std.proofs.Common.{◌≡◌, ℕ, Bool, List, [], ◌∷◌, Some, Option, slice_get}
+use Rattle.std.proofs.Common.{◌≡◌, ℕ, Bool, List, Some, Option, slice_get}
 use Rattle.std.specs.List.{AllZip}
 use Rattle.t_prim.specs.Values.{Val, Store}
-use Rattle.cps_ir.specs.States.{Meant, Scope, Closure, Pending, Waiting}
+use Rattle.cps_ir.specs.States.{Meant, Scope, Closure, Waiting}
 use Rattle.frame_ir.specs.Values.{Value, Frame, Env, Closure as FrameClosure}
 use Rattle.layout_relation.specs.Links.{Zipped, SameOption, neither, both, Links, Extends, SameVal, fix, char, nil, truth, symbol, string, pair, vector, closure, object, operation, builtin, escape, SameMeant, value, cell, SamePair, SameList, SameStore}
-use Rattle.layout_relation.specs.Contexts.{Catching, Return}
+use Rattle.layout_relation.specs.Contexts.{Catching}
 use Rattle.layout_relation.specs.Laid.{Sketch}
-use Rattle.layout_relation.specs.Related.{HoldAll, IsCaptured, AreCaptured, SameClosure, SameFrame, Waits, waits_none, waits_back}
+use Rattle.layout_relation.specs.Related.{HoldAll, IsCaptured, AreCaptured, SameClosure, Waits, waits_none, waits_back}
 use Rattle.layout_relation.proofs.Lists.{all_zip_more, zipped_more}
 
 module _ (old new : Links) (more : Extends old new) where

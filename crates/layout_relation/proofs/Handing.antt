@@ -1,43 +1,38 @@
 -- A value that is given to a continuation, on both sides.
-use Rattle.std.proofs.Common.{◌≡◌, ℕ, zero, suc, ◌+◌, ◌*◌, ◌≤◌, ◌<◌, ◌==◌, ◌⊎◌, Bool, true, false, if◌then◌else◌, List, [], ◌∷◌, ◌++◌, length, map, Option, Some, None, slice_get, refl, sym, ap, subst, ◌∙◌, arith, ⊎_elim, inl, inr}
-use Rattle.std.specs.Prelude.{option_and_then, IsSomeAnd}
+use Rattle.std.proofs.Common.{◌≡◌, ℕ, ◌+◌, ◌*◌, ◌≤◌, ◌<◌, ◌==◌, ◌⊎◌, false, if◌then◌else◌, List, [], ◌∷◌, ◌++◌, length, Some, None, slice_get, refl, sym, ap, subst, ◌∙◌, arith, ⊎_elim, inl, inr}
+use Rattle.std.specs.Prelude.{option_and_then}
 use Rattle.std.specs.Option.{option_map}
-use Rattle.std.specs.List.{AllByRecursion}
-use Rattle.std.proofs.lemmas.Bool.{true≢false, eq-eqb}
 use Rattle.program_runs.specs.Runs as runs
 use Rattle.t_base.specs.declared.basics.Var.{Var}
-use Rattle.t_base.specs.declared.shared_parts.Shared.{Shared}
-use Rattle.t_prim.specs.Values.{Val, ClosureV}
+use Rattle.t_prim.specs.Values.{Val}
 use Rattle.cps_ir.specs.declared.terms.Cont.{Cont}
 use Rattle.cps_ir.specs.declared.terms.Cont.TheVariants as Continuation
 use Rattle.cps_ir.specs.declared.terms.Cps.{Cps}
-use Rattle.cps_ir.specs.Parts.{is_assigned}
 use Rattle.cps_ir.specs.Reaches.{is_in}
 use Rattle.cps_ir.specs.States.{Meant, Direct, Bound, Scope, Control, At, Calling, Looking, Entering, Ended, State, Program, marked, all_escape, Pending, Waiting, Back, going as going_to, with_waiting}
-use Rattle.cps_ir.specs.Giving.{meant_by, binding, located, Way, Out, On, Lost, way, way_of, resumed, returned, given, give}
+use Rattle.cps_ir.specs.Giving.{meant_by, binding, located, resumed, returned, given, give}
 use Rattle.frame_ir.specs.declared.args.Arg.{Arg as FrameArg}
-use Rattle.frame_ir.specs.declared.args.Arg.TheVariants as FrameArgument
 use Rattle.frame_ir.specs.declared.forms.FrameOp.{FrameOp}
 use Rattle.frame_ir.specs.declared.forms.FrameOp.TheVariants as Op
 use Rattle.frame_ir.specs.declared.forms.FrameEnd.{FrameEnd}
 use Rattle.frame_ir.specs.declared.forms.FrameEnd.TheVariants as Last
 use Rattle.frame_ir.specs.declared.forms.Block.{Block}
 use Rattle.frame_ir.specs.declared.forms.Frames.{Frames}
-use Rattle.frame_ir.specs.Values.{Value, Lasting, Frame, Env, value_at, lasting_of}
+use Rattle.frame_ir.specs.Values.{Value, Lasting, Frame, Env, value_at}
 use Rattle.frame_ir.specs.States.{Running, Wrong, State as FrameState, going, counted, wrong, or_wrong, youngest, with_live, older_than_youngest}
 use Rattle.frame_ir.specs.Arguments.{value_of, lasting_value, values_of, kept_values, bound}
 use Rattle.frame_ir.specs.Calls.{jumped, begun, returned as returned_to}
 use Rattle.frame_ir.specs.Running.{step}
-use Rattle.layout_relation.specs.Links.{IsIn, first, later, Zipped, zip_none, zip_one, Links, SameVal, SameMeant, value}
-use Rattle.layout_relation.specs.Contexts.{Context, Exits, Meeting, IsUnneeded, IsFresh, with_var, paired, Catching, Start, Return, Purpose, Begins, Resumes}
-use Rattle.layout_relation.specs.Laid.{Sketch, IsFor, AreHeld, variables, IsNewIn, most_needs, Fetches, Gives, gives_out, gives_join, gives_jump, gives_here, gives_unused, GoesOn, goes_here, goes_to, Lays, ReturnFits, IsLaidOut}
-use Rattle.layout_relation.specs.Related.{Leads, leads_bound, Holds, HoldAll, IsCaptured, AreCaptured, SameFrame, Waits, waits_none, waits_back, SameMade, SameDoing, same_term, same_end, Related}
+use Rattle.layout_relation.specs.Links.{IsIn, first, later, zip_none, zip_one, Links, SameVal, SameMeant, value}
+use Rattle.layout_relation.specs.Contexts.{Context, Exits, IsUnneeded, with_var, Catching, Return, Begins, Resumes}
+use Rattle.layout_relation.specs.Laid.{Sketch, IsFor, variables, IsNewIn, Gives, gives_out, gives_join, gives_jump, gives_here, gives_unused, GoesOn, goes_here, goes_to, Lays, IsLaidOut}
+use Rattle.layout_relation.specs.Related.{Leads, leads_bound, HoldAll, AreCaptured, SameFrame, Waits, waits_none, waits_back, SameMade, SameDoing, same_term, same_end}
 use Rattle.layout_relation.proofs.Lists.{zipped_length, in_is_not, in_none}
-use Rattle.layout_relation.proofs.Scopes.{LeadsTo, leads_out, leads_to, other_meant, eqb_flip, eqb_same, hold_bound, hold_more}
-use Rattle.layout_relation.proofs.Paths.{Path, stays, steps, follows}
-use Rattle.layout_relation.proofs.Making.{Kept, kept_all}
+use Rattle.layout_relation.proofs.Scopes.{leads_out, leads_to, other_meant, eqb_flip, eqb_same, hold_bound, hold_more}
+use Rattle.layout_relation.proofs.Paths.{Path, steps}
+use Rattle.layout_relation.proofs.Making.{kept_all}
 use Rattle.layout_relation.proofs.Preparing.{remade}
-use Rattle.layout_relation.proofs.Arriving.{lasting_is, variables_read, variables_count, BlockAt, block_at, Arrives, arrives_after, arrives_more, jump_arrives, Fetched, frame_fetches}
+use Rattle.layout_relation.proofs.Arriving.{lasting_is, variables_read, variables_count, block_at, Arrives, arrives_after, arrives_more, jump_arrives, frame_fetches}
 
 -- ---- going on
 
@@ -157,16 +152,16 @@ module _ (cps : Cps) (p : Frames) (laid : IsLaidOut cps p) (Low : ℕ → ℕ �
       let begins : Block → FrameState = λ b2. if length b2.params == 1 then begun b2 (bound b2.params (Lasting b ∷ [])) t else wrong t in
       let go : Frame → FrameState = λ f. jumped p f.back (Lasting b ∷ []) t in
       let begun_is : returned_to p b t ≡ going (Running (fits.gets ++ Op.Pop ∷ fits.rest) blk.block.last env0) t =
-          ap (λ l. or_wrong (youngest l) t (λ birth. or_wrong (slice_get t.frames birth) t (λ f. if f.catch then wrong t else go f))) live
-          ∙ ap (λ o. or_wrong o t (λ f. if f.catch then wrong t else go f)) f.is
-          ∙ ap (λ b. if b then wrong t else go f.frame) f.push
-          ∙ ap (λ o. or_wrong o t begins) blk.is
-          ∙ ap (λ ps. if length ps == 1 then going (Running blk.block.ops.items blk.block.last (bound ps (Lasting b ∷ []))) t else wrong t) fits.takes
-          ∙ ap (λ os. going (Running os blk.block.last env0) t) fits.ops in
+      ap (λ l. or_wrong (youngest l) t (λ birth. or_wrong (slice_get t.frames birth) t (λ f. if f.catch then wrong t else go f))) live
+      ∙ ap (λ o. or_wrong o t (λ f. if f.catch then wrong t else go f)) f.is
+      ∙ ap (λ b. if b then wrong t else go f.frame) f.push
+      ∙ ap (λ o. or_wrong o t begins) blk.is
+      ∙ ap (λ ps. if length ps == 1 then going (Running blk.block.ops.items blk.block.last (bound ps (Lasting b ∷ []))) t else wrong t) fits.takes
+      ∙ ap (λ os. going (Running os blk.block.last env0) t) fits.ops in
       let captured = captured_inside links pending.param (Direct v) pending.scope r.kept f.frame.kept (subst (λ x. is_in r.kept x ≡ false) (sym f.param) fits.new.apart) f.kept in
       let held0 : HoldAll w links scope env0 ((r.param, fits.value.0) ∷ []) = hold_more w links scope env0 [] r.param fits.value.0
-          (record { meant = Direct v; value = Lasting b; is = subst (λ x. meant_by scope x ≡ Some (Direct v)) f.param (found_first pending.param (Direct v) pending.scope); at = ap (λ x. if x then Some (Lasting b) else None) (eqb_same fits.value.0); same = direct_same links r.param v b fits.new.plain same })
-          (λ a c i. absurd (in_none (a, c) i)) in
+      (record { meant = Direct v; value = Lasting b; is = subst (λ x. meant_by scope x ≡ Some (Direct v)) f.param (found_first pending.param (Direct v) pending.scope); at = ap (λ x. if x then Some (Lasting b) else None) (eqb_same fits.value.0); same = direct_same links r.param v b fits.new.plain same })
+      (λ a c i. absurd (in_none (a, c) i)) in
       let fetched = frame_fetches cps p laid Low links scope r.kept fits.value.0 ((r.param, fits.value.0) ∷ []) fits.vars fits.gets (Op.Pop ∷ fits.rest) blk.block.last env0 t birth older f.frame live f.is f.push captured (low_here t low) held0 fits.fetches in
       let u = fetched.state in
       let popped = counted 1 (with_live u older) in
@@ -174,12 +169,12 @@ module _ (cps : Cps) (p : Frames) (laid : IsLaidOut cps p) (Low : ℕ → ℕ �
       let low2 : (n : ℕ) → n ≤ length older → Low u.store.heap n = λ n le. subst (λ st. Low st.heap n) (sym fetched.counts.store) (low n (let e = ap length live in omega (arith, e, le))) in
       let c : Context = record { vars = fits.vars; exits = r.exits; catches = r.catches } in
       let onward = goes_arrives links s3 popped c pending.body scope fits.rest blk.block.last fetched.env2
-          (subst (λ x. GoesOn cps w c x fits.rest blk.block.last) (sym f.body) fits.goes) fetched.held
-          (leads_bound pending.param (Direct v) pending.scope r.exits (subst (λ x. IsUnneeded r.exits x) (sym f.param) fits.new.unneeded) f.leads)
-          (subst (λ fs. Waits w links fs r.catches rest older) (sym fetched.counts.frames) waits)
-          (remade cps w links s s3 t popped made refl refl refl fetched.counts.store fetched.counts.closures fetched.counts.globals) refl low2 in
+      (subst (λ x. GoesOn cps w c x fits.rest blk.block.last) (sym f.body) fits.goes) fetched.held
+      (leads_bound pending.param (Direct v) pending.scope r.exits (subst (λ x. IsUnneeded r.exits x) (sym f.param) fits.new.unneeded) f.leads)
+      (subst (λ fs. Waits w links fs r.catches rest older) (sym fetched.counts.frames) waits)
+      (remade cps w links s s3 t popped made refl refl refl fetched.counts.store fetched.counts.closures fetched.counts.globals) refl low2 in
       let after_pop = arrives_after cps p w Low s3 (going (Running (Op.Pop ∷ fits.rest) blk.block.last fetched.env2) u) (going (Running fits.rest blk.block.last fetched.env2) popped) 1 (cps.shared.size + 4)
-          (steps p Low (going (Running (Op.Pop ∷ fits.rest) blk.block.last fetched.env2) u) (going (Running fits.rest blk.block.last fetched.env2) popped) 1 pop (omega arith) (low2 (length older) (omega arith))) onward in
+      (steps p Low (going (Running (Op.Pop ∷ fits.rest) blk.block.last fetched.env2) u) (going (Running fits.rest blk.block.last fetched.env2) popped) 1 pop (omega arith) (low2 (length older) (omega arith))) onward in
       let whole = arrives_after cps p w Low s3 (going (Running (fits.gets ++ Op.Pop ∷ fits.rest) blk.block.last env0) t) (going (Running (Op.Pop ∷ fits.rest) blk.block.last fetched.env2) u) (1 * length fits.gets) (1 + (cps.shared.size + 4)) fetched.path after_pop in
       let bounded = arrives_more cps p w Low s3 (going (Running (fits.gets ++ Op.Pop ∷ fits.rest) blk.block.last env0) t) (1 * length fits.gets + (1 + (cps.shared.size + 4))) return_moves (let a = fits.few in omega (arith, a)) whole in
       record {

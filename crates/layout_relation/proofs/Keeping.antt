@@ -1,5 +1,5 @@
 -- Frames that lay out a program keep its meaning.
-use Rattle.std.proofs.Common.{◌≡◌, ℕ, ◌+◌, ◌≤◌, length, refl, ap, arith}
+use Rattle.std.proofs.Common.{length, ap, arith}
 use Rattle.program_runs.specs.Runs.{IsProper}
 use Rattle.program_runs.specs.Follows.{runs}
 use Rattle.program_runs.proofs.Follow.{steady_goes_on}

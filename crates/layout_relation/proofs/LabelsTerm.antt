@@ -1,44 +1,33 @@
 -- Names whose closures see each other.
-use Rattle.std.proofs.Common.{◌≡◌, ℕ, zero, suc, ◌+◌, ◌*◌, ◌≤◌, ◌<◌, ◌==◌, ◌⊎◌, Bool, true, false, if◌then◌else◌, List, [], ◌∷◌, ◌++◌, length, Option, Some, None, slice_get, refl, sym, ap, subst, ◌∙◌, arith, inl, inr, ⊎_elim, append-nil}
-use Rattle.program_runs.specs.Runs as runs
+use Rattle.std.proofs.Common.{◌≡◌, ℕ, suc, ◌+◌, ◌*◌, ◌≤◌, ◌<◌, ◌==◌, false, if◌then◌else◌, List, [], ◌∷◌, ◌++◌, length, Some, refl, sym, ap, subst, ◌∙◌, arith, inl, inr, ⊎_elim}
 use Rattle.t_base.specs.declared.basics.Var.{Var}
-use Rattle.t_base.specs.declared.builtins.Builtin.{Builtin}
 use Rattle.t_prim.specs.Values.{Val, ClosureV}
 use Rattle.std.specs.Prelude.{sum_by}
 use Rattle.std.specs.List.{AllByRecursion}
 use Rattle.cps_ir.specs.Reaches.{is_in}
-use Rattle.cps_ir.specs.declared.args.Arg.{Arg}
-use Rattle.cps_ir.specs.declared.terms.Cont.{Cont}
-use Rattle.cps_ir.specs.declared.terms.Cont.TheVariants as Continuation
 use Rattle.cps_ir.specs.declared.terms.Term.TheVariants as Node
 use Rattle.cps_ir.specs.declared.terms.Cps.{Cps}
-use Rattle.cps_ir.specs.States.{Meant, Direct, Bound, taking, with_closures, Scope, State, Program, marked, all_escape, At, Calling, Ended, going as going_to, ended as ended_to, with_waiting, Back, Pending, Joined}
-use Rattle.cps_ir.specs.Giving.{lam_words, Way, Out, On, Lost, way, give, pushing}
+use Rattle.cps_ir.specs.States.{Meant, Direct, Bound, taking, with_closures, Scope, State, Program, marked, all_escape, At, going as going_to}
+use Rattle.cps_ir.specs.Giving.{lam_words}
 use Rattle.cps_ir.specs.Running.{performed, new_closures, closures_of}
-use Rattle.frame_ir.specs.declared.args.Arg.{Arg as FrameArg}
 use Rattle.frame_ir.specs.declared.forms.FrameOp.{FrameOp}
-use Rattle.frame_ir.specs.declared.forms.FrameOp.TheVariants as Op
 use Rattle.frame_ir.specs.declared.forms.FrameEnd.{FrameEnd}
-use Rattle.frame_ir.specs.declared.forms.FrameEnd.TheVariants as Last
-use Rattle.frame_ir.specs.declared.forms.Block.{Block}
 use Rattle.frame_ir.specs.declared.forms.Frames.{Frames}
-use Rattle.frame_ir.specs.Values.{Value, Lasting, Frame, Env, value_at}
-use Rattle.frame_ir.specs.States.{Running, Calling as CallingAt, Ended as EndedAt, State as FrameState, going, counted, or_wrong, with_frame}
-use Rattle.frame_ir.specs.Arguments.{value_of, lasting_value, lasting_values, kept_values}
+use Rattle.frame_ir.specs.Values.{Lasting, Env, value_at}
+use Rattle.frame_ir.specs.States.{Running, State as FrameState, going}
 use Rattle.frame_ir.specs.Groups.{makings, with_addresses, addressed, youngest_birth}
-use Rattle.frame_ir.specs.Running.{step}
-use Rattle.layout_relation.specs.Links.{IsIn, first as at_first, later, Zipped, IsTied, Links, SameVal, closure}
-use Rattle.layout_relation.specs.Contexts.{Context, Exits, IsUnneeded, IsFresh, IsUnused, paired, Return, Purpose, ArmOf, Resumes}
-use Rattle.layout_relation.specs.Laid.{Sketch, numbers, AreDistinct, Labels, labels_none, labels_one, made_by, labelled, GoesOn, IsFor, StartsApart, Prepares, Gives, IsLaidOut}
-use Rattle.layout_relation.specs.Related.{SameMade, HoldAll, Leads, leads_bound, Waits}
+use Rattle.layout_relation.specs.Links.{IsIn, first as at_first, later, IsTied, Links, closure}
+use Rattle.layout_relation.specs.Contexts.{Context, Exits, IsUnneeded, IsFresh, IsUnused, paired}
+use Rattle.layout_relation.specs.Laid.{Sketch, numbers, AreDistinct, Labels, labels_none, labels_one, made_by, labelled, GoesOn, StartsApart, IsLaidOut}
+use Rattle.layout_relation.specs.Related.{HoldAll, Leads, leads_bound, Waits}
 use Rattle.layout_relation.proofs.Growing.{hold_grows, waits_grow}
 use Rattle.layout_relation.proofs.Lists.{in_left, in_right, in_either, in_cases, in_none, in_is_not, all_in}
 use Rattle.layout_relation.proofs.Scopes.{other_meant, eqb_flip, eqb_same, hold_more}
 use Rattle.layout_relation.proofs.Made.{ties as ties_of, tied, tied_extends, tie_at, Closes, made_more, labels_make}
 use Rattle.layout_relation.proofs.Arguments.{TiedFrom}
 use Rattle.layout_relation.proofs.Calling.{bounds, bind_all}
-use Rattle.layout_relation.proofs.Paths.{Path, more_path}
-use Rattle.layout_relation.proofs.Preparing.{remade, Prepared, group}
+use Rattle.layout_relation.proofs.Paths.{more_path}
+use Rattle.layout_relation.proofs.Preparing.{remade, group}
 use Rattle.layout_relation.proofs.Arriving.{bound_later, arrives_after}
 use Rattle.layout_relation.proofs.Handing.{LowBelow, Reaches, found_first, direct_same, goes_arrives}
 use Rattle.layout_relation.proofs.Staged.{Staged}
@@ -114,7 +103,7 @@ module _ (cps : Cps) (p : Frames) (laid : IsLaidOut cps p) (Low : ℕ → ℕ �
       let tie : IsTied links.closures i j = subst (λ a. IsTied links.closures a j) (let e : i + 0 ≡ i = omega arith in e) (subst (λ b. IsTied links.closures (i + 0) b) (let e : j + 0 ≡ j = omega arith in e) (ties 0 (omega arith))) in
       let h3 = hold_more w links scope2 env2 held x.0 to.0 (record { meant = Direct (ClosureV i); value = Lasting (ClosureV j); is = found_first cps p laid Low x.0 (Direct (ClosureV i)) scope; at = ap (λ b. if b then Some (Lasting (ClosureV j)) else value_at env to.0) (eqb_same to.0); same = direct_same cps p laid Low links x.0 (ClosureV i) (ClosureV j) plain.0 (closure i j tie) }) h2 in
       let more = labels_hold links vars ys ls ns ts scope2 env2 ((x.0, to.0) ∷ held) (suc i) (j + 1) birth rest h3 (first_apart x.0 (numbers ys) held to.0 distinct.0 names) (second_apart to.0 (made_by ns) held x.0 m.later holders) distinct.1 plain.1
-          (λ k lt. subst (λ a. IsTied links.closures a (j + 1 + k)) (let e : i + suc k ≡ suc i + k = omega arith in e) (subst (λ b. IsTied links.closures (i + suc k) b) (let e : j + suc k ≡ j + 1 + k = omega arith in e) (ties (suc k) (omega (arith, lt))))) in
+      (λ k lt. subst (λ a. IsTied links.closures a (j + 1 + k)) (let e : i + suc k ≡ suc i + k = omega arith in e) (subst (λ b. IsTied links.closures (i + suc k) b) (let e : j + suc k ≡ j + 1 + k = omega arith in e) (ties (suc k) (omega (arith, lt))))) in
       λ a b q. more a b (shuffle (x.0, to.0) (paired (numbers ys) ts) held (a, b) q)
 
   fresh_apart : (c : Context) (xs : List Var) → AllByRecursion (λ x. IsFresh c x.0 × (w.celled x.0 ≡ false)) xs → NamesApart (numbers xs) c.vars

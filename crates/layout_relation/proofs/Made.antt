@@ -1,34 +1,23 @@
 -- Closures that are made at once: their addresses, their records, and that what was made stays the same.
-use Rattle.std.proofs.Common.{◌≡◌, ℕ, zero, suc, ◌+◌, ◌*◌, ◌-◌, ◌%◌, ◌≤◌, ◌<◌, ◌⊎◌, nat_eq, ◌==◌, nat_lt, Bool, true, false, ◌||◌, ◌&&◌, if◌then◌else◌, List, [], ◌∷◌, ◌++◌, length, map, Option, Some, None, slice_get, refl, sym, ap, subst, ◌∙◌, arith, append_assoc, inl, inr, ⊎_elim}
-use Rattle.std.specs.Prelude.{option_and_then}
-use Rattle.std.specs.Option.{option_map}
-use Rattle.std.specs.List.{AllZip, AllByRecursion, list_all}
-use Rattle.std.proofs.lemmas.Bool.{true≢false, eq-eqb, ne_eqb, eqb-true, eqb-false}
+use Rattle.std.proofs.Common.{◌≡◌, ℕ, zero, suc, ◌+◌, ◌≤◌, ◌<◌, nat_eq, Bool, true, false, List, [], ◌∷◌, ◌++◌, length, Some, slice_get, refl, sym, ap, subst, ◌∙◌, arith, ⊎_elim}
+use Rattle.std.specs.List.{AllZip}
+use Rattle.std.proofs.lemmas.Bool.{eq-eqb, ne_eqb, eqb-true, eqb-false}
 use Rattle.std.proofs.lemmas.Option.{slice_get_within}
-use Rattle.std.proofs.Math.Nat.{mod-lt}
 use Rattle.t_base.specs.declared.basics.Var.{Var}
-use Rattle.t_prim.specs.Values.{Val, ClosureV, Store}
+use Rattle.t_prim.specs.Values.{ClosureV}
 use Rattle.cps_ir.specs.declared.terms.Cps.{Cps}
-use Rattle.cps_ir.specs.Reaches.{is_in}
-use Rattle.cps_ir.specs.States.{Meant, Scope, Closure, State}
-use Rattle.frame_ir.specs.declared.forms.Place.{Place}
+use Rattle.cps_ir.specs.States.{Closure, State}
 use Rattle.frame_ir.specs.declared.forms.Place.TheVariants as At
 use Rattle.frame_ir.specs.declared.forms.FrameOp.{FrameOp}
 use Rattle.frame_ir.specs.declared.forms.FrameOp.TheVariants as Op
-use Rattle.frame_ir.specs.declared.forms.FrameEnd.{FrameEnd}
-use Rattle.frame_ir.specs.declared.forms.Frames.{Frames}
-use Rattle.frame_ir.specs.Values.{Value, Lasting, CellAt, Closure as FrameClosure, Frame, Env, value_at, is_lasting, record_words}
-use Rattle.frame_ir.specs.States.{Running, State as FrameState, going, counted, taking, with_closure, or_wrong}
-use Rattle.frame_ir.specs.Arguments.{kept_values, each_of}
-use Rattle.frame_ir.specs.Groups.{Making, makings, behind, with_addresses, addressed, youngest_birth, on_heap, placed, made, grouped}
-use Rattle.frame_ir.specs.Running.{step}
-use Rattle.layout_relation.specs.Links.{IsIn, first, later, Zipped, zip_none, zip_one, SameOption, Ties, IsTied, Links, Extends, IsOneToOne, AreOneToOne, SameVal, SameMeant, value, cell, SameStore}
-use Rattle.layout_relation.specs.Contexts.{IsUnused}
-use Rattle.layout_relation.specs.Laid.{Sketch, IsFor, AreHeld, MakesClosure, Labels, labels_none, labels_one, made_by, is_closure, StartsApart}
-use Rattle.layout_relation.specs.Related.{HoldAll, Holds, IsCaptured, AreCaptured, SameClosure, ClosuresAt, SameMade}
-use Rattle.layout_relation.proofs.Lists.{get_front, get_behind, in_left, in_right, in_cases, in_none, in_either, some_at, is_in_head, zipped_length, zipped_at, zipped_more}
+use Rattle.frame_ir.specs.Values.{Closure as FrameClosure, record_words}
+use Rattle.frame_ir.specs.States.{State as FrameState}
+use Rattle.frame_ir.specs.Groups.{made}
+use Rattle.layout_relation.specs.Links.{IsIn, first, later, Zipped, SameOption, Ties, IsTied, Links, Extends, IsOneToOne, SameVal, SameStore}
+use Rattle.layout_relation.specs.Laid.{Sketch, MakesClosure, Labels, labels_none, labels_one}
+use Rattle.layout_relation.specs.Related.{SameClosure, ClosuresAt, SameMade}
+use Rattle.layout_relation.proofs.Lists.{get_front, get_behind, in_right, in_cases, in_none, in_either, some_at, zipped_at}
 use Rattle.layout_relation.proofs.Growing.{store_grows, globals_grow, closure_grows}
-use Rattle.layout_relation.proofs.Scopes.{captures, other_value, eqb_flip, eqb_same}
 
 -- ---- ties of new closures
 
@@ -128,9 +117,9 @@ made_more cps w links s s2 t t2 cs rs words h c b few same =
     let more = tied_extends links (length s.closures) (length t.closures) cs in
     let below : (a d : ℕ) → IsTied links.closures a d → (a < length s.closures) × (d < length t.closures) = λ a d k. let at = h.closures a d k in (slice_get_within s.closures a at.left at.is, slice_get_within t.closures d at.right at.at) in
     let there : (i j : ℕ) → IsTied new.closures i j → ClosuresAt w new (s.closures ++ cs) (t.closures ++ rs) i j = λ i j k. ⊎_elim
-        (λ n. new_there (new_tie cs (length s.closures) (length t.closures) (i, j) n))
-        (λ o. let at = h.closures i j o in record { left = at.left; right = at.right; is = get_front s.closures cs i at.left at.is; at = get_front t.closures rs j at.right at.at; same = closure_grows links new more w at.left at.right at.same })
-        (in_either (i, j) (ties (length s.closures) (length t.closures) cs) links.closures k) in
+    (λ n. new_there (new_tie cs (length s.closures) (length t.closures) (i, j) n))
+    (λ o. let at = h.closures i j o in record { left = at.left; right = at.right; is = get_front s.closures cs i at.left at.is; at = get_front t.closures rs j at.right at.at; same = closure_grows links new more w at.left at.right at.same })
+    (in_either (i, j) (ties (length s.closures) (length t.closures) cs) links.closures k) in
     record {
       one = record { closures = still_one cs links.closures (length s.closures) (length t.closures) below h.one.closures; objects = h.one.objects; escapes = h.one.escapes };
       store = subst (λ x. SameStore new x t2.store) (sym c.store) (subst (λ y. SameStore new (record s.store { heap = s.store.heap + words }) y) (sym b.store) (wider (store_grows links new more s.store t.store h.store)));

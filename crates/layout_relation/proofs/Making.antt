@@ -1,16 +1,16 @@
 -- The closures that operations make, as a step of the frames.
-use Rattle.std.proofs.Common.{◌≡◌, ℕ, zero, suc, ◌+◌, ◌*◌, ◌%◌, ◌≤◌, ◌<◌, ◌==◌, nat_lt, Bool, true, false, ◌&&◌, if◌then◌else◌, List, [], ◌∷◌, ◌++◌, length, map, Option, Some, None, slice_get, refl, sym, ap, subst, ◌∙◌, arith, append_assoc, append-nil}
+use Rattle.std.proofs.Common.{◌≡◌, ℕ, suc, ◌+◌, ◌*◌, ◌%◌, ◌≤◌, ◌<◌, nat_lt, Bool, true, false, ◌&&◌, if◌then◌else◌, List, [], ◌∷◌, length, Some, refl, sym, ap, ◌∙◌, arith, append_assoc, append-nil}
 use Rattle.std.specs.Prelude.{option_and_then, sum_by}
 use Rattle.std.specs.Option.{option_map}
-use Rattle.std.specs.List.{AllByRecursion, list_all}
+use Rattle.std.specs.List.{list_all}
 use Rattle.std.proofs.Math.Nat.{mod-lt}
 use Rattle.std.proofs.lemmas.List.Sums.{sum_by-cons}
 use Rattle.t_base.specs.declared.basics.Var.{Var}
-use Rattle.t_prim.specs.Values.{Val, ClosureV}
+use Rattle.t_prim.specs.Values.{ClosureV}
 use Rattle.cps_ir.specs.declared.terms.Cps.{Cps}
 use Rattle.cps_ir.specs.Parts.{first_lams}
 use Rattle.cps_ir.specs.Reaches.{is_in}
-use Rattle.cps_ir.specs.States.{Meant, Scope, Closure, Program, marked, all_escape}
+use Rattle.cps_ir.specs.States.{Meant, Scope, Program, marked, all_escape}
 use Rattle.cps_ir.specs.Giving.{lam_words}
 use Rattle.cps_ir.specs.Running.{closures_of}
 use Rattle.frame_ir.specs.declared.forms.Place.TheVariants as At
@@ -19,13 +19,12 @@ use Rattle.frame_ir.specs.declared.forms.FrameOp.TheVariants as Op
 use Rattle.frame_ir.specs.Values.{Value, Lasting, Closure as FrameClosure, Env, value_at, is_lasting, record_words}
 use Rattle.frame_ir.specs.States.{State, counted, taking, with_closure, or_wrong, wrong}
 use Rattle.frame_ir.specs.Arguments.{kept_values}
-use Rattle.frame_ir.specs.Groups.{makings, behind, with_addresses, placed, made}
-use Rattle.layout_relation.specs.Links.{IsIn, Zipped, zip_none, zip_one, Links, SameMeant, value, cell}
-use Rattle.layout_relation.specs.Contexts.{IsUnused}
-use Rattle.layout_relation.specs.Laid.{Sketch, AreHeld, MakesClosure, made_by, is_closure, StartsApart}
+use Rattle.frame_ir.specs.Groups.{makings, with_addresses, placed, made}
+use Rattle.layout_relation.specs.Links.{Zipped, zip_none, zip_one, Links, SameMeant, value, cell}
+use Rattle.layout_relation.specs.Laid.{Sketch, AreHeld, MakesClosure, made_by}
 use Rattle.layout_relation.specs.Related.{HoldAll, IsCaptured, AreCaptured, SameClosure}
 use Rattle.layout_relation.proofs.Lists.{zipped_length, is_in_head}
-use Rattle.layout_relation.proofs.Scopes.{captures, other_value, eqb_flip, eqb_same}
+use Rattle.layout_relation.proofs.Scopes.{other_value, eqb_same}
 use Rattle.layout_relation.proofs.Made.{words_in, moves_in, Builds, Makes, makes_none, makes_one}
 
 -- ---- kept variables

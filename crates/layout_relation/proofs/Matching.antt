@@ -1,16 +1,13 @@
 -- Each step of the program is matched by the frames.
-use Rattle.std.proofs.Common.{◌≡◌, ℕ, zero, suc, ◌+◌, ◌*◌, ◌≤◌, ◌<◌, ◌⊎◌, Bool, true, false, List, [], ◌∷◌, ◌++◌, length, map, Option, Some, None, slice_get, refl, sym, ap, subst, ◌∙◌, arith, inl, inr, ⊎_elim, mul-le-mul_left}
+use Rattle.std.proofs.Common.{◌≡◌, ℕ, suc, ◌+◌, ◌*◌, ◌≤◌, ◌⊎◌, List, [], ◌∷◌, length, map, Some, None, refl, sym, ap, subst, ◌∙◌, arith, inl, inr, ⊎_elim, mul-le-mul_left}
 use Rattle.program_runs.specs.Runs.{End}
-use Rattle.program_runs.specs.Runs as runs_of
-use Rattle.program_runs.specs.Follows.{Alike, CostsBetween, after, Machine, runs, Matched, Simulates}
-use Rattle.t_prim.specs.Values.{Val, Store}
+use Rattle.program_runs.specs.Follows.{Alike, after, Machine, Matched, Simulates}
 use Rattle.cps_ir.specs.declared.args.Arg.{Arg}
 use Rattle.cps_ir.specs.declared.terms.Term.{Term}
-use Rattle.cps_ir.specs.declared.terms.Term.TheVariants as Node
 use Rattle.cps_ir.specs.declared.terms.Cont.TheVariants as Continuation
 use Rattle.cps_ir.specs.declared.terms.Cps.{Cps}
 use Rattle.cps_ir.specs.Terms.{moves_of}
-use Rattle.cps_ir.specs.States.{Program, marked, all_escape, Waiting, Scope, Control, At, Calling, Looking, Entering, Ended, State, counting, seen as seen_of, end_of as end_of_control}
+use Rattle.cps_ir.specs.States.{Program, marked, all_escape, Waiting, Scope, Control, At, State, counting, seen as seen_of, end_of as end_of_control}
 use Rattle.cps_ir.specs.Giving.{or_broken}
 use Rattle.cps_ir.specs.Calls.{called as called_to, looked as looked_to, entered as entered_to}
 use Rattle.cps_ir.specs.Running.{performed, advanced, step as step_of}
@@ -19,20 +16,19 @@ use Rattle.frame_ir.specs.declared.args.Arg.{Arg as FrameArg}
 use Rattle.frame_ir.specs.declared.forms.FrameOp.{FrameOp}
 use Rattle.frame_ir.specs.declared.forms.FrameEnd.{FrameEnd}
 use Rattle.frame_ir.specs.declared.forms.Frames.{Frames}
-use Rattle.frame_ir.specs.Values.{Value, Lasting, Frame, Env}
-use Rattle.frame_ir.specs.States.{Doing, Running, Calling as CallingAt, Looking as LookingAt, Entering as EnteringAt, end_of, State as FrameState, going, counted, seen}
+use Rattle.frame_ir.specs.Values.{Lasting, Frame, Env}
+use Rattle.frame_ir.specs.States.{Doing, Running, end_of, State as FrameState, going, counted, seen}
 use Rattle.frame_ir.specs.Calls.{called, looked, entered}
 use Rattle.frame_ir.specs.Running.{step, advance}
 use Rattle.layout_relation.specs.Links.{Links}
 use Rattle.layout_relation.specs.Contexts.{Context, Resumes}
-use Rattle.layout_relation.specs.Laid.{Sketch, Prepares, prepares_none, prepares_same, prepares_closure, Lays, lays, LaysTerm, lays_tail_call, lays_call, lays_prim, lays_if, lays_labels, lays_join, lays_give, lays_halt, most_needs, AreHeld, Awaits, IsLaidOut}
+use Rattle.layout_relation.specs.Laid.{Sketch, Prepares, prepares_none, prepares_same, prepares_closure, Lays, lays, LaysTerm, lays_tail_call, lays_call, lays_prim, lays_if, lays_labels, lays_join, lays_give, lays_halt, IsLaidOut}
 use Rattle.layout_relation.specs.Related.{Leads, HoldAll, Waits, SameMade, SameDoing, same_term, same_call, same_look, same_entry, same_end, Related}
 use Rattle.layout_relation.specs.Laws.{moves_for}
 use Rattle.layout_relation.proofs.Lists.{zipped_length}
-use Rattle.layout_relation.proofs.Paths.{Path}
 use Rattle.layout_relation.proofs.Preparing.{remade}
 use Rattle.layout_relation.proofs.Arriving.{block_at}
-use Rattle.layout_relation.proofs.Handing.{LowBelow, rank_of, Reaches, reaches_step, reaches_more}
+use Rattle.layout_relation.proofs.Handing.{LowBelow, rank_of, Reaches, reaches_step}
 use Rattle.layout_relation.proofs.Staged.{waiting_count, waits_count, Staged}
 use Rattle.layout_relation.proofs.Calling.{entry_moves}
 use Rattle.layout_relation.proofs.Stepping.{Comes, called_comes, looked_comes, entering_comes}
@@ -147,7 +143,7 @@ module _ (cps : Cps) (p : Frames) (laid : IsLaidOut cps p) where
       } in
       let d = does (Low s) c2 at2 scope term ops2 last2 env s1 t fits staged in
       let reaches = subst (λ n. Reaches cps p w (Low s) (step_of P s) t d.0 n) (sym (ap (rank_of w) ec))
-          (subst (λ z. Reaches cps p w (Low s) z t d.0 (w.rank at2)) (sym stepped) (subst (λ z. Reaches cps p w (Low s) final z d.0 (w.rank at2)) (sym (running t (Running ops2 last2 env) ed)) d.1)) in
+      (subst (λ z. Reaches cps p w (Low s) z t d.0 (w.rank at2)) (sym stepped) (subst (λ z. Reaches cps p w (Low s) final z d.0 (w.rank at2)) (sym (running t (Running ops2 last2 env) ed)) d.1)) in
       let moves = ap (λ z. z.moves) stepped in
       let same = d.3 in
       matched_by s t d.0 (moves_of term) reaches d.2 (omega (arith, moves, same))

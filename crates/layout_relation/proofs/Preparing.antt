@@ -1,14 +1,13 @@
 -- The closures at the head of a term's operations are made in one step.
-use Rattle.std.proofs.Common.{◌≡◌, ℕ, zero, suc, ◌+◌, ◌*◌, ◌≤◌, ◌<◌, Bool, true, false, List, [], ◌∷◌, ◌++◌, length, map, Option, Some, None, slice_get, refl, sym, ap, subst, ◌∙◌, arith, mul-le-mul_right}
+use Rattle.std.proofs.Common.{◌≡◌, ℕ, suc, ◌+◌, ◌*◌, ◌≤◌, List, [], ◌∷◌, ◌++◌, length, Some, slice_get, refl, sym, ap, subst, ◌∙◌, arith, mul-le-mul_right}
 use Rattle.std.specs.Prelude.{sum_by}
 use Rattle.std.specs.List.{AllZip}
 use Rattle.std.proofs.lemmas.Bool.{true≢false}
-use Rattle.std.proofs.lemmas.Option.{slice_get_within}
 use Rattle.t_base.specs.declared.basics.Var.{Var}
 use Rattle.t_prim.specs.Values.{Val, ClosureV}
 use Rattle.cps_ir.specs.declared.args.Arg.{Arg}
 use Rattle.cps_ir.specs.declared.terms.Cps.{Cps}
-use Rattle.cps_ir.specs.States.{Scope, Closure, Program, marked, all_escape, State, going as going_to}
+use Rattle.cps_ir.specs.States.{Scope, marked, all_escape, State}
 use Rattle.cps_ir.specs.Giving.{lam_words, with_args}
 use Rattle.cps_ir.specs.Running.{closures_of}
 use Rattle.frame_ir.specs.declared.args.Arg.{Arg as FrameArg}
@@ -17,20 +16,20 @@ use Rattle.frame_ir.specs.declared.forms.FrameOp.{FrameOp}
 use Rattle.frame_ir.specs.declared.forms.FrameOp.TheVariants as Op
 use Rattle.frame_ir.specs.declared.forms.FrameEnd.{FrameEnd}
 use Rattle.frame_ir.specs.declared.forms.Frames.{Frames}
-use Rattle.frame_ir.specs.Values.{Value, Closure as FrameClosure, Env}
+use Rattle.frame_ir.specs.Values.{Closure as FrameClosure, Env}
 use Rattle.frame_ir.specs.States.{Running, State as FrameState, going}
 use Rattle.frame_ir.specs.Arguments.{lasting_values}
-use Rattle.frame_ir.specs.Groups.{Making as Planned, makings, behind, youngest_birth, with_addresses, addressed, made, grouped}
+use Rattle.frame_ir.specs.Groups.{Making as Planned, makings, behind, youngest_birth, addressed, made}
 use Rattle.frame_ir.specs.Running.{step}
-use Rattle.layout_relation.specs.Links.{IsIn, Zipped, zip_none, IsTied, Links, Extends, SameVal, SameOption, SameStore}
-use Rattle.layout_relation.specs.Laid.{Sketch, is_closure, StartsApart, Prepares}
+use Rattle.layout_relation.specs.Links.{Zipped, zip_none, IsTied, Links, Extends, SameVal, SameOption, SameStore}
+use Rattle.layout_relation.specs.Laid.{Sketch, StartsApart, Prepares}
 use Rattle.layout_relation.specs.Related.{HoldAll, SameClosure, ClosuresAt, SameMade}
-use Rattle.layout_relation.proofs.Lists.{zipped_length, zipped_more, in_left}
-use Rattle.layout_relation.proofs.Growing.{hold_grows, vals_grow, closure_grows}
+use Rattle.layout_relation.proofs.Lists.{zipped_more, in_left}
+use Rattle.layout_relation.proofs.Growing.{hold_grows, closure_grows}
 use Rattle.layout_relation.proofs.Paths.{Path, stays, steps}
-use Rattle.layout_relation.proofs.Made.{ties, tied, tied_extends, tie_at, Closes, Builds, words_in, moves_in, made_more, Makes, makes_none, makes_one}
-use Rattle.layout_relation.proofs.Making.{built, built_is, Making, making}
-use Rattle.layout_relation.proofs.Arguments.{HasProcedures, Arguments, arguments}
+use Rattle.layout_relation.proofs.Made.{ties, tied, tied_extends, tie_at, Builds, words_in, made_more, Makes, makes_none, makes_one}
+use Rattle.layout_relation.proofs.Making.{built, built_is, making}
+use Rattle.layout_relation.proofs.Arguments.{arguments}
 
 -- ---- a group
 
@@ -104,7 +103,7 @@ module _ (cps : Cps) (p : Frames) (w : Sketch) (small : (l : ℕ) → length (w.
       let b : Builds t (built m.records u) m.records = record { store = b0.store; closures = b0.closures; globals = b0.globals; frames = b0.frames; live = b0.live; moves = b0.moves } in
       let end = going (Running ops last (addressed (makings made_ops) env t)) (built m.records u) in
       let one : step p u ≡ end = ap (λ xs. k xs (behind (made_ops ++ ops))) (makings_join cps w vars (l ∷ ls) made_ops ops (to ∷ ts) all apart) ∙ ap (λ bs. k (makings made_ops) bs) (behind_join cps w vars (l ∷ ls) made_ops ops (to ∷ ts) all apart)
-          ∙ m.makes u (λ v. going (Running ops last (addressed (makings made_ops) env t)) v) in
+      ∙ m.makes u (λ v. going (Running ops last (addressed (makings made_ops) env t)) v) in
       record {
         records = m.records;
         same = m.same;

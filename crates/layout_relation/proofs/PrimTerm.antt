@@ -1,46 +1,41 @@
 -- A builtin at its operands.
-use Rattle.std.proofs.Common.{◌≡◌, ℕ, zero, suc, ◌+◌, ◌*◌, ◌≤◌, ◌<◌, ◌⊎◌, Bool, true, false, if◌then◌else◌, List, [], ◌∷◌, ◌++◌, length, Option, Some, None, slice_get, refl, sym, ap, subst, ◌∙◌, arith, inl, inr, append-nil}
+use Rattle.std.proofs.Common.{◌≡◌, ℕ, ◌+◌, ◌*◌, ◌≤◌, if◌then◌else◌, List, ◌∷◌, ◌++◌, length, Some, refl, sym, ap, subst, ◌∙◌, arith, inl}
 use Rattle.program_runs.specs.Runs as runs
 use Rattle.t_base.specs.declared.basics.Var.{Var}
 use Rattle.t_base.specs.declared.builtins.Builtin.{Builtin}
-use Rattle.t_prim.specs.Values.{Val, shown_of}
 use Rattle.t_prim.specs.Operands.{Row, Gives as RowGives, Changes as RowChanges, Faults as RowFaults}
 use Rattle.t_prim.specs.Table.{row}
 use Rattle.t_prim.proofs.RowLaws.{RowGrows, row_grows}
 use Rattle.std.specs.Prelude.{option_and_then}
 use Rattle.cps_ir.specs.declared.args.Arg.{Arg}
 use Rattle.cps_ir.specs.declared.terms.Cont.{Cont}
-use Rattle.cps_ir.specs.declared.terms.Cont.TheVariants as Continuation
 use Rattle.cps_ir.specs.declared.terms.Term.TheVariants as Node
 use Rattle.cps_ir.specs.declared.terms.Cps.{Cps}
-use Rattle.cps_ir.specs.States.{Scope, State, Program, marked, all_escape, At, Calling, Ended, going as going_to, ended as ended_to, faulted as faulted_to, with_store as store_to, with_waiting, Back, Pending, Joined}
-use Rattle.cps_ir.specs.Giving.{after_row as row_to, Way, Out, On, Lost, way, give, pushing}
+use Rattle.cps_ir.specs.States.{Scope, State, Program, marked, all_escape, faulted as faulted_to, with_store as store_to}
+use Rattle.cps_ir.specs.Giving.{after_row as row_to, way, give}
 use Rattle.cps_ir.specs.Running.{performed}
 use Rattle.frame_ir.specs.declared.args.Arg.{Arg as FrameArg}
 use Rattle.frame_ir.specs.declared.args.Arg.TheVariants as FrameArgument
 use Rattle.frame_ir.specs.declared.forms.FrameOp.{FrameOp}
 use Rattle.frame_ir.specs.declared.forms.FrameOp.TheVariants as Op
 use Rattle.frame_ir.specs.declared.forms.FrameEnd.{FrameEnd}
-use Rattle.frame_ir.specs.declared.forms.FrameEnd.TheVariants as Last
-use Rattle.frame_ir.specs.declared.forms.Block.{Block}
 use Rattle.frame_ir.specs.declared.forms.Frames.{Frames}
-use Rattle.frame_ir.specs.Values.{Value, Lasting, Frame, Env, value_at, lasting_of}
-use Rattle.frame_ir.specs.States.{Running, Calling as CallingAt, Ended as EndedAt, State as FrameState, Wrong, going, counted, faulted, or_wrong, after_row, with_store, with_frame}
-use Rattle.frame_ir.specs.Arguments.{value_of, lasting_value, lasting_values, kept_values}
+use Rattle.frame_ir.specs.Values.{Lasting, Env, value_at, lasting_of}
+use Rattle.frame_ir.specs.States.{Running, Ended as EndedAt, State as FrameState, Wrong, going, counted, faulted, or_wrong, after_row, with_store}
+use Rattle.frame_ir.specs.Arguments.{lasting_value, lasting_values}
 use Rattle.frame_ir.specs.Running.{step}
-use Rattle.layout_relation.specs.Links.{Zipped, Links, SameVal, SameStore, SameRow, gives, changes, faults}
-use Rattle.layout_relation.specs.Contexts.{Context, IsUnused, Return, Purpose, ArmOf, Resumes}
-use Rattle.layout_relation.specs.Laid.{Sketch, IsFor, StartsApart, Prepares, Gives, IsLaidOut}
-use Rattle.layout_relation.specs.Related.{SameMade, HoldAll, Leads, Waits, same_term, same_call, same_end}
+use Rattle.layout_relation.specs.Links.{Links, SameRow, gives, changes, faults}
+use Rattle.layout_relation.specs.Contexts.{Context, IsUnused}
+use Rattle.layout_relation.specs.Laid.{Sketch, Prepares, Gives, IsLaidOut}
+use Rattle.layout_relation.specs.Related.{SameMade, HoldAll, Leads, Waits, same_end}
 use Rattle.layout_relation.proofs.Growing.{waits_grow}
 use Rattle.layout_relation.proofs.Rows.{row_same}
 use Rattle.layout_relation.proofs.Scopes.{eqb_same, hold_set}
 use Rattle.layout_relation.proofs.Stepping.{given_store}
-use Rattle.layout_relation.proofs.Paths.{Path, steps}
-use Rattle.layout_relation.proofs.Preparing.{remade, Prepared, prepared}
-use Rattle.layout_relation.proofs.Arriving.{lasting_is, BlockAt, block_at}
-use Rattle.layout_relation.proofs.Handing.{LowBelow, Reaches, reaches_after, reaches_step, reaches_more, give_moves, gives_arrives}
-use Rattle.layout_relation.proofs.Staged.{Staged, First, first, with_others}
+use Rattle.layout_relation.proofs.Paths.{steps}
+use Rattle.layout_relation.proofs.Preparing.{remade, prepared}
+use Rattle.layout_relation.proofs.Handing.{LowBelow, Reaches, reaches_after, reaches_step, give_moves, gives_arrives}
+use Rattle.layout_relation.proofs.Staged.{Staged}
 
 module _ (cps : Cps) (p : Frames) (laid : IsLaidOut cps p) (Low : ℕ → ℕ → Type 0) where
   abbrev w : Sketch
@@ -111,7 +106,7 @@ module _ (cps : Cps) (p : Frames) (laid : IsLaidOut cps p) (Low : ℕ → ℕ �
       let heap = ap (λ z. z.store.heap) there in
       let reads : lasting_values p.shared x.env2 bs ≡ Some x.rights = subst (λ sh. lasting_values sh x.env2 bs ≡ Some x.rights) (sym laid.shared) x.reads in
       let one : step p at ≡ after_row q (counted (1 + length bs) x.right) (λ v z. going (Running ops last ((to.0, Lasting v) ∷ x.env2)) z) =
-          ap (λ o. or_wrong o at (λ vs. after_row (row b vs at.store) (counted (1 + length bs) at) (λ v z. going (Running ops last ((to.0, Lasting v) ∷ x.env2)) z))) reads ∙ row_going q (counted (1 + length bs) at) (counted (1 + length bs) x.right) ops last to x.env2 refl in
+      ap (λ o. or_wrong o at (λ vs. after_row (row b vs at.store) (counted (1 + length bs) at) (λ v z. going (Running ops last ((to.0, Lasting v) ∷ x.env2)) z))) reads ∙ row_going q (counted (1 + length bs) at) (counted (1 + length bs) x.right) ops last to x.env2 refl in
       let waits = subst (λ fs. Waits w x.links2 fs c.catches x.left.waiting x.right.live) (sym x.frames) (subst (λ l. Waits w x.links2 u.frames c.catches x.left.waiting l) (sym x.live) (subst (λ q. Waits w x.links2 u.frames c.catches q u.live) (sym x.waiting) (waits_grow g.links x.links2 x.extends w u.frames u.frames (λ i f h. h) c.catches s.waiting u.live g.waits))) in
       let path = x.path (λ h le. g.low h (length u.live) (omega (arith, le, heap, up)) (inl (omega arith))) in
       let lows : (h m : ℕ) → h ≤ final.store.heap → m ≤ length x.right.live → Low h m = λ h m le below. g.low h m (omega (arith, le, heap)) (inl (let e = ap length x.live in omega (arith, below, e))) in

@@ -1,19 +1,18 @@
 -- A builtin gives the same at operands and in stores that are the same.
-use Rattle.std.proofs.Common.{◌≡◌, ℕ, ℤ, pos, ◌+◌, if◌then◌else◌, ◌≤◌, not, ◌||◌, is_some, nat_eq, Bool, true, false, List, [], ◌∷◌, ◌++◌, length, replicate, slice_get, slice_set, Option, Some, None, option_and_then, refl, sym, ap, subst, ◌∙◌, arith}
+use Rattle.std.proofs.Common.{◌≡◌, ℕ, ℤ, pos, if◌then◌else◌, not, ◌||◌, is_some, Bool, true, false, List, [], ◌∷◌, ◌++◌, length, replicate, slice_get, slice_set, Option, Some, None, option_and_then, refl, ap, subst, ◌∙◌, arith}
 use Rattle.std.specs.Prelude.{◌+ℤ◌, ◌-ℤ◌, ◌*ℤ◌, int_div, int_rem}
-use Rattle.std.specs.List.{AllZip}
 use Rattle.std.specs.Ordering.{int_eq}
 use Rattle.t_base.specs.declared.builtins.Builtin.{Builtin}
 use Rattle.t_base.specs.declared.builtins.Builtin.TheVariants.{Add, Sub, Mul, Quotient, Remainder, Inc, Dec, NumEq, NumLt, NumGt, NumLe, NumGe, IsZero, IsNegative, IsPositive, Eq, Not, IsNull, IsPair, IsAtom, IsList, IsFixnum, IsChar, IsString, IsSymbol, IsVector, IsProcedure, Cons, Car, Cdr, SetCar, SetCdr, MakeVector, VectorLength, Vref, SetVref, StringLength, StringElt, SymbolToString, CharToAscii, AsciiToChar, CharEq, CharLt, PutFixnum, PutChar, PutString, Newline, Error}
 use Rattle.t_base.specs.declared.faults.Fault.{Fault}
 use Rattle.t_base.specs.declared.faults.Fault.TheVariants.{NotFixnum, NotPair, NotVector, IndexRange, FixnumOverflow, DivideByZero, NotChar, NotString, CharRange, NotSymbol, WrongCount, User}
-use Rattle.t_prim.specs.Values.{Text, Literal, PrintName, Val, FixV, NilV, TrueV, VectorV, PairV, Store, text_of, with_new_pair, with_new_vector, with_pair_at, with_vector_at, with_output, vector_words, shown_of, shown_symbol}
+use Rattle.t_prim.specs.Values.{Literal, PrintName, Val, FixV, NilV, TrueV, VectorV, PairV, Store, text_of, with_new_pair, with_new_vector, with_pair_at, with_vector_at, with_output, shown_of, shown_symbol}
 use Rattle.t_prim.specs.Kinds.{fixnum_of, char_of, symbol_of, string_of, pair_of, vector_of, is_nil, is_pair, is_procedure}
 use Rattle.t_prim.specs.Identity.{is_same}
 use Rattle.t_prim.specs.Operands.{Row, Gives, Faults, or_fault, natural_of, ascii_of, in_range, number, truth, unless_zero, with_fixnum, with_fixnums, with_char, with_symbol, with_string, with_pair, with_vector, with_size, with_element, with_ascii}
 use Rattle.t_prim.specs.Table.{Line, with_none, with_one, with_two, with_three, table, at_operands, row}
 use Rattle.layout_relation.specs.Links.{Zipped, zip_none, zip_one, SameOption, neither, both, Links, AreOneToOne, SameVal, fix, char, nil, truth as truth_val, symbol, string, pair, vector, closure, object, operation, builtin, escape, SamePair, SameList, SameStore, SameRow, gives, changes, faults}
-use Rattle.layout_relation.proofs.Lists.{zip_get, zip_set, zip_join, zip_length, zip_many, zipped}
+use Rattle.layout_relation.proofs.Lists.{zip_get, zip_set, zip_join, zip_length, zip_many}
 
 -- ---- kinds
 
@@ -194,7 +193,7 @@ module _ (m : Links) (one : AreOneToOne m) where
     heap = let low = st.heap in omega (arith, low);
   }
 
--- ---- the table
+  -- ---- the table
 
   abbrev IsSameLine : Line → Type 0
   IsSameLine (with_none go) = (s t : Store) → SameStore m s t → SameRow m (go s) (go t)

@@ -1,5 +1,5 @@
 -- The moves of a term and of a call are counted before they are done.
-use Rattle.std.proofs.Common.{◌≡◌, ℕ, ◌==◌, Bool, true, false, if◌then◌else◌, List, [], ◌∷◌, length, Option, Some, None, slice_get, refl, sym, ap, subst, ◌∙◌}
+use Rattle.std.proofs.Common.{◌≡◌, ℕ, ◌==◌, Bool, true, false, if◌then◌else◌, List, [], ◌∷◌, length, Option, Some, None, slice_get}
 use Rattle.std.specs.Prelude.{option_and_then, sum_by}
 use Rattle.program_runs.specs.Runs as runs
 use Rattle.t_base.specs.declared.basics.Var.{Var}
@@ -12,13 +12,12 @@ use Rattle.t_prim.specs.Table.{row}
 use Rattle.cps_ir.specs.declared.args.Arg.{Arg}
 use Rattle.cps_ir.specs.declared.args.Arg.TheVariants as Argument
 use Rattle.cps_ir.specs.declared.terms.Cont.{Cont}
-use Rattle.cps_ir.specs.declared.terms.Term.{Term}
 use Rattle.cps_ir.specs.declared.terms.Term.TheVariants as Node
 use Rattle.cps_ir.specs.Parts.{is_assigned}
-use Rattle.cps_ir.specs.States.{Program, Direct, Bound, Begun, faulted, Scope, Closure, Handler, Pending, Waiting, Back, Live, At, Calling, Ended, State, going, ended, with_waiting, with_store, taking, with_closures}
+use Rattle.cps_ir.specs.States.{Program, Direct, Bound, Begun, faulted, Scope, Closure, Pending, Waiting, Back, Live, At, Calling, State, going, ended, with_waiting, with_store, taking, with_closures}
 use Rattle.cps_ir.specs.Giving.{Way, Out, On, Lost, way, or_broken, or_unbound, meant_by, value_of, with_arg, with_args, closing, located, binding, binding_all, resumed, returned, given, give, pushing, after_row, lam_words}
 use Rattle.cps_ir.specs.Calls.{begun, entered, default_of, defaulted, looked, unwound, escaped, escape, operated, called}
-use Rattle.cps_ir.specs.Running.{labelling, new_closures, closures_of, performed}
+use Rattle.cps_ir.specs.Running.{new_closures, closures_of, performed}
 
 module _ (p : Program) (n : ℕ) where
   abbrev Counts : State → Type 0

@@ -1,20 +1,16 @@
 -- Scopes, and where continuations lead.
-use Rattle.std.proofs.Common.{◌≡◌, ℕ, suc, ◌+◌, ◌==◌, Bool, true, false, if◌then◌else◌, List, [], ◌∷◌, ◌++◌, length, map, Option, Some, None, slice_get, refl, sym, ap, subst, ◌∙◌, arith}
+use Rattle.std.proofs.Common.{◌≡◌, ℕ, ◌==◌, Bool, true, false, if◌then◌else◌, List, ◌∷◌, Some, refl, sym, ap, subst, ◌∙◌}
 use Rattle.std.specs.List.{AllByRecursion}
-use Rattle.std.proofs.lemmas.Bool.{true≢false, eq-eqb, ne_eqb, eqb-false}
-use Rattle.t_base.specs.declared.basics.Var.{Var}
-use Rattle.t_prim.specs.Values.{Val}
+use Rattle.std.proofs.lemmas.Bool.{eq-eqb, ne_eqb, eqb-false}
 use Rattle.cps_ir.specs.Reaches.{is_in}
-use Rattle.cps_ir.specs.States.{Program, Meant, Direct, Binding, Bound, Joined, Begun, Scope, State}
-use Rattle.cps_ir.specs.Giving.{meant_by, Way, Out, On, Lost, way_of, binding, binding_all}
-use Rattle.cps_ir.specs.Parts.{is_assigned}
-use Rattle.frame_ir.specs.Values.{Value, Lasting, Env, value_at}
-use Rattle.frame_ir.specs.Arguments.{bound}
-use Rattle.layout_relation.specs.Links.{IsIn, first, later, Zipped, zip_none, zip_one, Links, SameVal, SameMeant, value}
-use Rattle.layout_relation.specs.Contexts.{Meeting, Exits, NoExit, OwnExit, JoinExit, Exit, Leaves, Meets, Nowhere, exit_of, IsUnneeded, Context, IsFresh, IsUnused, paired}
-use Rattle.layout_relation.specs.Laid.{Sketch, numbers, AreDistinct, AreHeld}
-use Rattle.layout_relation.specs.Related.{Leads, leads_none, leads_own, leads_join, leads_bound, Holds, HoldAll, IsCaptured, AreCaptured}
-use Rattle.layout_relation.proofs.Lists.{all_in, is_in_head, in_is_not}
+use Rattle.cps_ir.specs.States.{Meant, Bound, Joined, Scope}
+use Rattle.cps_ir.specs.Giving.{meant_by, Out, On, Lost, way_of}
+use Rattle.frame_ir.specs.Values.{Value, Env, value_at}
+use Rattle.layout_relation.specs.Links.{IsIn, first, later, Links, SameMeant}
+use Rattle.layout_relation.specs.Contexts.{Meeting, Exits, NoExit, OwnExit, JoinExit, Leaves, Meets, Nowhere, exit_of, IsUnneeded, IsUnused}
+use Rattle.layout_relation.specs.Laid.{Sketch}
+use Rattle.layout_relation.specs.Related.{Leads, leads_none, leads_own, leads_join, leads_bound, Holds, HoldAll, IsCaptured}
+use Rattle.layout_relation.proofs.Lists.{all_in, in_is_not}
 
 -- ---- where a continuation leads
 

@@ -1,5 +1,5 @@
 -- A term that is about to be done: what holds there, and what its arguments come to.
-use Rattle.std.proofs.Common.{◌≡◌, ℕ, zero, suc, ◌+◌, ◌*◌, ◌≤◌, ◌<◌, ◌⊎◌, Bool, true, false, List, [], ◌∷◌, ◌++◌, length, Option, Some, None, slice_get, refl, sym, ap, subst, ◌∙◌, arith, ⊎_elim, inl, inr}
+use Rattle.std.proofs.Common.{◌≡◌, ℕ, ◌≤◌, ◌⊎◌, List, [], ◌∷◌, length, Option, Some, None, refl, sym, ap, subst, ◌∙◌, arith}
 use Rattle.std.specs.Prelude.{option_and_then, sum_by}
 use Rattle.std.specs.Option.{option_map}
 use Rattle.std.proofs.lemmas.List.Sums.{sum_by-cons}
@@ -7,15 +7,15 @@ use Rattle.t_base.specs.declared.shared_parts.Shared.{Shared}
 use Rattle.t_prim.specs.Values.{Val}
 use Rattle.cps_ir.specs.declared.args.Arg.{Arg}
 use Rattle.cps_ir.specs.declared.terms.Cps.{Cps}
-use Rattle.cps_ir.specs.States.{Scope, State, Program, marked, all_escape, Waiting, Back, Live, Pending, count_of, broken}
+use Rattle.cps_ir.specs.States.{Scope, State, marked, all_escape, Waiting, Back, count_of, broken}
 use Rattle.cps_ir.specs.Giving.{with_args}
 use Rattle.frame_ir.specs.declared.args.Arg.{Arg as FrameArg}
 use Rattle.frame_ir.specs.declared.forms.FrameOp.{FrameOp}
 use Rattle.frame_ir.specs.declared.forms.FrameEnd.{FrameEnd}
 use Rattle.frame_ir.specs.declared.forms.Frames.{Frames}
-use Rattle.frame_ir.specs.Values.{Value, Lasting, Frame, Env}
+use Rattle.frame_ir.specs.Values.{Frame, Env}
 use Rattle.frame_ir.specs.States.{State as FrameState}
-use Rattle.frame_ir.specs.Arguments.{value_of, lasting_value, lasting_values}
+use Rattle.frame_ir.specs.Arguments.{lasting_value, lasting_values}
 use Rattle.layout_relation.specs.Links.{Zipped, zip_none, zip_one, Links, SameVal}
 use Rattle.layout_relation.specs.Contexts.{Context, Catching}
 use Rattle.layout_relation.specs.Laid.{Sketch, StartsApart, Prepares, IsLaidOut}

@@ -1,5 +1,5 @@
 -- The runs start alike.
-use Rattle.std.proofs.Common.{◌≡◌, ℕ, zero, suc, ◌+◌, ◌≤◌, ◌<◌, ◌==◌, ◌⊎◌, nat_eq, Bool, true, false, if◌then◌else◌, List, [], ◌∷◌, ◌++◌, length, map, filter, Option, Some, None, slice_get, refl, sym, ap, subst, ◌∙◌, arith, inl, inr, ⊎_elim}
+use Rattle.std.proofs.Common.{◌≡◌, ℕ, zero, suc, ◌+◌, ◌≤◌, ◌<◌, ◌==◌, nat_eq, Bool, true, false, if◌then◌else◌, List, [], ◌∷◌, length, map, filter, Some, None, slice_get, refl, sym, ap, subst, ◌∙◌, arith}
 use Rattle.std.specs.List.{AllZip}
 use Rattle.std.proofs.lemmas.Bool.{eq-eqb}
 use Rattle.std.proofs.lemmas.Option.{slice_get_within}
@@ -9,25 +9,23 @@ use Rattle.t_base.specs.declared.shared_parts.Global1.{Global1}
 use Rattle.t_base.specs.declared.shared_parts.GlobalKind.{GlobalKind}
 use Rattle.t_base.specs.declared.shared_parts.GlobalKind.TheVariants as Kind
 use Rattle.t_base.specs.declared.shared_parts.Shared.{Shared}
-use Rattle.t_prim.specs.Values.{Val, ClosureV, val_of, first_store}
+use Rattle.t_prim.specs.Values.{ClosureV, val_of, first_store}
 use Rattle.cps_ir.specs.declared.terms.Cps.{Cps}
-use Rattle.cps_ir.specs.Parts.{is_proc, is_procedure, global_lams, first_lams}
-use Rattle.cps_ir.specs.States.{Closure, State}
+use Rattle.cps_ir.specs.Parts.{is_proc, is_procedure, first_lams}
 use Rattle.cps_ir.specs.Running.{first_globals, first_closures, start}
 use Rattle.frame_ir.specs.declared.forms.Block.{Block}
 use Rattle.frame_ir.specs.declared.forms.Frames.{Frames}
-use Rattle.frame_ir.specs.Values.{Closure as FrameClosure}
-use Rattle.frame_ir.specs.States.{Running, State as FrameState, going, wrong, or_wrong}
-use Rattle.frame_ir.specs.Arguments.{is_proc as is_proc_at, number_among, code_of_global, bound}
+use Rattle.frame_ir.specs.States.{Running, going, wrong, or_wrong}
+use Rattle.frame_ir.specs.Arguments.{is_proc as is_proc_at, number_among, bound}
 use Rattle.frame_ir.specs.Calls.{begun}
 use Rattle.frame_ir.specs.Running.{static_closures, first_globals as first_globals_at, bare_state, start as start_at}
-use Rattle.layout_relation.specs.Links.{IsIn, first, later, zip_none, SameOption, neither, both, Ties, IsTied, Links, IsOneToOne, SameVal, closure, SamePair, SameStore}
+use Rattle.layout_relation.specs.Links.{zip_none, SameOption, neither, both, IsTied, Links, IsOneToOne, SameVal, closure, SamePair, SameStore}
 use Rattle.layout_relation.specs.Contexts.{paired, Start, NoExit, CodeOf, Begins}
-use Rattle.layout_relation.specs.Laid.{Sketch, IsLaidOut}
-use Rattle.layout_relation.specs.Related.{leads_none, AreCaptured, ClosuresAt, waits_none, SameMade, SameDoing, same_term, Related}
+use Rattle.layout_relation.specs.Laid.{IsLaidOut}
+use Rattle.layout_relation.specs.Related.{leads_none, AreCaptured, ClosuresAt, waits_none, SameMade, same_term, Related}
 use Rattle.layout_relation.proofs.Lists.{in_none}
 use Rattle.layout_relation.proofs.Arguments.{const_same}
-use Rattle.layout_relation.proofs.Made.{ties, NewTie, new_tie, tie_at}
+use Rattle.layout_relation.proofs.Made.{ties, new_tie, tie_at}
 use Rattle.layout_relation.proofs.Preparing.{remade}
 use Rattle.layout_relation.proofs.Arriving.{block_at}
 
@@ -79,9 +77,10 @@ globals_same links (g ∷ gs) next h = by (is_procedure g) (is_proc_at g.kind) (
         → AllZip (SameOption (SameVal links)) (if x then Some (ClosureV next) ∷ first_globals (suc next) gs else None ∷ first_globals next gs) (if y then Some (ClosureV next) ∷ first_globals_at (suc next) gs else None ∷ first_globals_at next gs)
     by true y e is go_on go_by =
         let l = ap (λ x. length (if x then g ∷ procs gs else procs gs)) is in
-        subst (λ y. AllZip (SameOption (SameVal links)) (Some (ClosureV next) ∷ first_globals (suc next) gs) (if y then Some (ClosureV next) ∷ first_globals_at (suc next) gs else None ∷ first_globals_at next gs)) e
-        (both (ClosureV next) (ClosureV next) (closure next next (subst (λ n. IsTied links.closures n n) (let q : next + 0 ≡ next = omega arith in q) (h 0 (omega (arith, l))))),
-            go_on (λ k lt. subst (λ n. IsTied links.closures n n) (let q : next + suc k ≡ suc next + k = omega arith in q) (h (suc k) (omega (arith, l, lt)))))
+        subst (λ y. AllZip (SameOption (SameVal links)) (Some (ClosureV next) ∷ first_globals (suc next) gs) (if y then Some (ClosureV next) ∷ first_globals_at (suc next) gs else None ∷ first_globals_at next gs)) e (
+          both (ClosureV next) (ClosureV next) (closure next next (subst (λ n. IsTied links.closures n n) (let q : next + 0 ≡ next = omega arith in q) (h 0 (omega (arith, l))))),
+          go_on (λ k lt. subst (λ n. IsTied links.closures n n) (let q : next + suc k ≡ suc next + k = omega arith in q) (h (suc k) (omega (arith, l, lt)))),
+        )
     by false y e is go_on go_by =
         let l = ap (λ x. length (if x then g ∷ procs gs else procs gs)) is in
         subst (λ y. AllZip (SameOption (SameVal links)) (None ∷ first_globals next gs) (if y then Some (ClosureV next) ∷ first_globals_at (suc next) gs else None ∷ first_globals_at next gs)) e
@@ -204,8 +203,8 @@ module _ (cps : Cps) (p : Frames) (laid : IsLaidOut cps p) where
       let t = bare_state p in
       let end = going (Running b.ops.items b.last []) t in
       let is : start_at p ≡ end = ap (λ o. or_wrong o t (λ b. if length b.params == 0 then begun b (bound b.params []) t else wrong t)) blk.is
-          ∙ ap (λ x. if x then begun b (bound b.params []) t else wrong t) (eq-eqb (length b.params) 0 (let e = fits.count in omega (arith, e)))
-          ∙ ap (λ env. begun b env t) (none_bound b.params) in
+      ∙ ap (λ x. if x then begun b (bound b.params []) t else wrong t) (eq-eqb (length b.params) 0 (let e = fits.count in omega (arith, e)))
+      ∙ ap (λ env. begun b env t) (none_bound b.params) in
       subst (λ u. Related cps laid.sketch (start cps) u) (sym is) (record {
         links = links;
         made = remade cps laid.sketch links (start cps) (start cps) t end made_at_start refl refl refl refl refl refl;
@@ -219,5 +218,5 @@ module _ (cps : Cps) (p : Frames) (laid : IsLaidOut cps p) where
       let b = blk.block in
       let t = bare_state p in
       let is = ap (λ o. or_wrong o t (λ b. if length b.params == 0 then begun b (bound b.params []) t else wrong t)) blk.is
-          ∙ ap (λ x. if x then begun b (bound b.params []) t else wrong t) (eq-eqb (length b.params) 0 (let e = blk.fits.count in omega (arith, e))) in
+      ∙ ap (λ x. if x then begun b (bound b.params []) t else wrong t) (eq-eqb (length b.params) 0 (let e = blk.fits.count in omega (arith, e))) in
       (ap (λ u. u.moves) is, ap (λ u. u.store.heap) is, ap (λ u. u.live) is)

@@ -1,41 +1,37 @@
 -- Calls that are made or passed on, and operations that look for their default, on both sides.
-use Rattle.std.proofs.Common.{◌≡◌, ℕ, zero, suc, ◌+◌, ◌*◌, ◌≤◌, ◌<◌, ◌==◌, ◌⊎◌, Bool, true, false, if◌then◌else◌, List, [], ◌∷◌, ◌++◌, length, map, take, filter, Option, Some, None, slice_get, refl, sym, ap, subst, ◌∙◌, arith, ⊎_elim, inl, inr}
-use Rattle.std.specs.Prelude.{option_and_then, IsSomeAnd, count_by}
+use Rattle.std.proofs.Common.{◌≡◌, ℕ, zero, suc, ◌+◌, ◌≤◌, ◌<◌, Bool, true, false, if◌then◌else◌, List, [], ◌∷◌, length, map, take, filter, Option, Some, None, slice_get, refl, sym, ap, subst, ◌∙◌, arith}
+use Rattle.std.specs.Prelude.{count_by}
 use Rattle.std.specs.Option.{option_map_or}
-use Rattle.std.proofs.lemmas.Bool.{true≢false, eq-eqb, eqb-true}
+use Rattle.std.proofs.lemmas.Bool.{true≢false}
 use Rattle.std.proofs.lemmas.List.Sums.{length-filter, sum_by-cons}
-use Rattle.program_runs.specs.Runs as runs
-use Rattle.t_base.specs.declared.faults.Fault.{Fault}
 use Rattle.t_base.specs.declared.faults.Fault.TheVariants.{WrongCount, NotProcedure, NotHandled}
-use Rattle.t_base.specs.declared.builtins.Builtin.{Builtin}
 use Rattle.t_base.specs.declared.shared_parts.Global1.{Global1}
 use Rattle.t_base.specs.declared.shared_parts.GlobalKind.{GlobalKind}
 use Rattle.t_base.specs.declared.shared_parts.GlobalKind.TheVariants as Kind
 use Rattle.t_base.specs.declared.shared_parts.OpInfo.{OpInfo}
-use Rattle.t_base.specs.declared.shared_parts.Shared.{Shared}
-use Rattle.t_prim.specs.Values.{Val, ClosureV, ObjectV, OperationV, BuiltinV, EscapeV, Store}
-use Rattle.t_prim.specs.Operands.{Row, Gives, Changes, Faults}
+use Rattle.t_prim.specs.Values.{Val, ClosureV, OperationV, Store}
+use Rattle.t_prim.specs.Operands.{Row}
 use Rattle.t_prim.specs.Table.{row}
 use Rattle.cps_ir.specs.declared.terms.Cps.{Cps}
 use Rattle.cps_ir.specs.Parts.{is_proc, is_procedure, global_lams, first_lams}
-use Rattle.cps_ir.specs.States.{Scope, Control, At, Looking, Entering, Ended, State, Program, marked, all_escape, Closure, Handler, Waiting, Back, Live, Pending, going as going_to, faulted as faulted_to, with_store as store_to, with_waiting}
+use Rattle.cps_ir.specs.States.{At, Looking, Entering, State, Program, marked, all_escape, Closure, Waiting, Back, Live, going as going_to, faulted as faulted_to, with_store as store_to, with_waiting}
 use Rattle.cps_ir.specs.Giving.{Way, Out, On, Lost, or_unbound, after_row as row_to, returned, given}
 use Rattle.cps_ir.specs.Calls.{entered as entered_to, called as called_to, operated as operated_to, looked as looked_to, default_at, default_of, handlers_at, defaulted as defaulted_to}
 use Rattle.frame_ir.specs.declared.forms.Frames.{Frames}
-use Rattle.frame_ir.specs.Values.{Value, Lasting, Closure as FrameClosure}
-use Rattle.frame_ir.specs.States.{Doing, Looking as LookingAt, Entering as EnteringAt, State as FrameState, going, counted, wrong, faulted, or_wrong, after_row, with_store}
+use Rattle.frame_ir.specs.Values.{Lasting}
+use Rattle.frame_ir.specs.States.{Looking as LookingAt, Entering as EnteringAt, State as FrameState, going, faulted, or_wrong, after_row, with_store}
 use Rattle.frame_ir.specs.Arguments.{is_proc as is_proc_at, number_among, proc_count, code_of_default}
 use Rattle.frame_ir.specs.Calls.{entered, returned as returned_to, called, operated, looked, methods_at, defaulted}
-use Rattle.layout_relation.specs.Links.{IsIn, Zipped, zip_none, zip_one, SameOption, neither, both, Ties, IsTied, Links, SameVal, fix, char, nil, truth, symbol, string, pair, vector, closure, object, operation, builtin, escape, SameStore, SameRow, gives, changes, faults}
+use Rattle.layout_relation.specs.Links.{IsIn, Zipped, zip_none, zip_one, SameOption, neither, both, IsTied, Links, SameVal, fix, char, nil, truth, symbol, string, pair, vector, closure, object, operation, builtin, escape, SameRow, gives, changes, faults}
 use Rattle.layout_relation.specs.Contexts.{CodeOf}
 use Rattle.layout_relation.specs.Laid.{Sketch, IsFor, IsLaidOut}
-use Rattle.layout_relation.specs.Related.{ClosuresAt, Waits, SameMade, SameDoing, same_look, same_entry, Related}
+use Rattle.layout_relation.specs.Related.{Waits, SameMade, same_look, same_entry, Related}
 use Rattle.layout_relation.proofs.Lists.{in_none}
 use Rattle.layout_relation.proofs.Rows.{row_same}
 use Rattle.layout_relation.proofs.Preparing.{remade}
 use Rattle.layout_relation.proofs.Arriving.{Arrives, arrives_more}
 use Rattle.layout_relation.proofs.Handing.{LowBelow, bound_to, return_moves, Returns, returned_arrives}
-use Rattle.layout_relation.proofs.Calling.{Stands, stands_by, entry_moves, fault_stands, Source, needs_none, in_record, entry_stands}
+use Rattle.layout_relation.proofs.Calling.{Stands, entry_moves, fault_stands, needs_none, in_record, entry_stands}
 
 -- ---- defaults
 

@@ -3,7 +3,7 @@
 -- Each block has a purpose. A term is laid out by the rest of a block: by the closures that its arguments make, by its own operation, and
 -- by what goes on with its value. Procedures have a code block, which fetches what they need from their closure, and go on in a block that
 -- begins the body. A continuation that is written out, and the k of a Join, give a frame at a call: the variables that are needed behind it.
-use Rattle.std.specs.Prelude.{◌≡◌, ℕ, ◌+◌, ◌*◌, ◌<◌, ◌≤◌, ◌==◌, ◌⊎◌, nat_lt, Bool, true, false, List, [], ◌∷◌, ◌++◌, length, map, Option, Some, None, slice_get, IsSomeAnd}
+use Rattle.std.specs.Prelude.{◌≡◌, ℕ, ◌+◌, ◌<◌, ◌≤◌, ◌==◌, nat_lt, Bool, true, false, List, [], ◌∷◌, ◌++◌, length, map, Some, slice_get, IsSomeAnd}
 use Rattle.std.specs.List.{AllByRecursion}
 use Rattle.t_base.specs.declared.basics.Var.{Var}
 use Rattle.t_base.specs.declared.builtins.Builtin.{Builtin}
@@ -29,7 +29,7 @@ use Rattle.frame_ir.specs.declared.forms.Block.{Block}
 use Rattle.frame_ir.specs.declared.forms.Frames.{Frames}
 use Rattle.frame_ir.specs.Arguments.{code_of_global}
 use Rattle.layout_relation.specs.Links.{IsIn, Zipped}
-use Rattle.layout_relation.specs.Contexts.{Meeting, Exits, NoExit, OwnExit, JoinExit, Exit, Leaves, Meets, Nowhere, exit_of, IsUnneeded, Context, IsFresh, IsUnused, with_var, paired, Catching, Start, Return, Purpose, CodeOf, Begins, ArmOf, Resumes}
+use Rattle.layout_relation.specs.Contexts.{Meeting, Exits, NoExit, OwnExit, JoinExit, Leaves, Meets, exit_of, IsUnneeded, Context, IsFresh, IsUnused, with_var, paired, Start, Return, Purpose, CodeOf, Begins, ArmOf, Resumes}
 
 -- ---- the whole layout
 

@@ -1,13 +1,13 @@
 -- Which values of the run of a program are the same as which of the run of its frames. What has an identity is tied to an address: ties
 -- are pairs of numbers, so that no value is followed into what it holds.
-use Rattle.std.specs.Prelude.{◌≡◌, ℕ, suc, ℤ, ◌≤◌, nat_eq, Bool, true, false, List, [], ◌∷◌, Option, Some, None}
+use Rattle.std.specs.Prelude.{◌≡◌, ℕ, ℤ, ◌≤◌, nat_eq, Bool, true, false, List, [], ◌∷◌, Option, Some, None}
 use Rattle.std.specs.List.{AllZip}
 use Rattle.t_base.specs.declared.builtins.Builtin.{Builtin}
 use Rattle.t_base.specs.declared.faults.Fault.{Fault}
 use Rattle.t_prim.specs.Values.{Text, Val, FixV, CharV, NilV, TrueV, SymbolV, StringV, PairV, VectorV, ClosureV, ObjectV, OperationV, BuiltinV, EscapeV, Store}
 use Rattle.t_prim.specs.Operands.{Row, Gives, Changes, Faults}
 use Rattle.cps_ir.specs.States.{Meant, Direct, InLocation}
-use Rattle.frame_ir.specs.Values.{Value, Lasting, InFrame, CellAt}
+use Rattle.frame_ir.specs.Values.{Value, Lasting, CellAt}
 
 -- ---- lists
 

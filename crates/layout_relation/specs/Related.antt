@@ -1,18 +1,18 @@
 -- Where a run of a program and a run of its frames stand alike: things by identity and address, records that never change, and what waits
 -- against the live frames.
-use Rattle.std.specs.Prelude.{◌≡◌, ℕ, ◌≤◌, true, false, List, [], ◌∷◌, map, Option, Some, None, slice_get}
+use Rattle.std.specs.Prelude.{◌≡◌, ℕ, false, List, [], ◌∷◌, map, Some, slice_get}
 use Rattle.std.specs.List.{AllZip}
 use Rattle.program_runs.specs.Runs.{End}
 use Rattle.t_prim.specs.Values.{Val, ClosureV}
 use Rattle.cps_ir.specs.declared.terms.Cps.{Cps}
-use Rattle.cps_ir.specs.States.{Meant, Binding, Bound, Joined, Begun, Scope, Closure, Pending, Waiting, Back, Live, Control, At, Calling, Looking, Entering, Ended, State}
+use Rattle.cps_ir.specs.States.{Meant, Bound, Joined, Begun, Scope, Closure, Pending, Waiting, Back, Control, At, Calling, Looking, Entering, Ended, State}
 use Rattle.cps_ir.specs.Giving.{meant_by}
 use Rattle.frame_ir.specs.declared.forms.FrameOp.{FrameOp}
 use Rattle.frame_ir.specs.declared.forms.FrameEnd.{FrameEnd}
 use Rattle.frame_ir.specs.Values.{Value, Lasting, Frame, Env, value_at, Closure as FrameClosure}
 use Rattle.frame_ir.specs.States.{Doing, Running, Calling as CallingAt, Looking as LookingAt, Entering as EnteringAt, end_of, State as FrameState}
 use Rattle.frame_ir.specs.Arguments.{code_of_global}
-use Rattle.layout_relation.specs.Links.{IsIn, Zipped, SameOption, IsTied, Links, AreOneToOne, SameVal, SameMeant, SameList, SameStore}
+use Rattle.layout_relation.specs.Links.{IsIn, Zipped, SameOption, IsTied, Links, AreOneToOne, SameVal, SameMeant, SameStore}
 use Rattle.layout_relation.specs.Contexts.{Meeting, Exits, NoExit, OwnExit, JoinExit, IsUnneeded, Context, Catching, Return, CodeOf, Resumes}
 use Rattle.layout_relation.specs.Laid.{Sketch, IsFor, Lays}
 
