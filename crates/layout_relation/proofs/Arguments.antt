@@ -24,7 +24,7 @@ use Rattle.frame_ir.specs.Arguments.{code_of_global, lasting_value, lasting_valu
 use Rattle.frame_ir.specs.Groups.{makings, with_addresses}
 use Rattle.layout_relation.specs.Links.{IsIn, Zipped, zip_none, zip_one, IsTied, Links, Extends, SameVal, fix, char, nil, truth, symbol, string, pair, closure, operation, builtin, SameMeant, value, cell}
 use Rattle.layout_relation.specs.Laid.{Sketch, MakesClosure, made_by, SameArg, same_const, same_var, same_global, same_builtin, same_op, Prepares, prepares_none, prepares_same, prepares_closure}
-use Rattle.layout_relation.specs.Related.{HoldAll}
+use Rattle.layout_relation.specs.Related.{parts_of, HoldAll}
 use Rattle.layout_relation.proofs.Lists.{all_in}
 use Rattle.layout_relation.proofs.Growing.{val_grows}
 use Rattle.layout_relation.proofs.Scopes.{eqb_flip, hold_set}
@@ -50,7 +50,7 @@ pub record Plain (links : Links) (meant : Meant) (v : Value) : Type 0 where
 
 plain_meant : (links : Links) (celled : Bool) (meant : Meant) (v : Value) → SameMeant links celled meant v → celled ≡ false → Plain links meant v
 plain_meant links celled meant v (value a b h) e = record { left = a; right = b; is = refl; at = refl; same = h }
-plain_meant links celled meant v (cell i j h) e = absurd (never e)
+plain_meant links celled meant v (cell i lt) e = absurd (never e)
   where
     never : true ≡ false → ⊥
     never h = cc
@@ -152,13 +152,14 @@ module _ (cps : Cps) (w : Sketch) (small : (l : ℕ) → length (w.needs l) ≤ 
       }
 
   closed_front : (s t : State) (l : ℕ) (cs : List Closure) (words : ℕ) → Closes (closing P l scope s) t cs words → Closes s t (record { lam = l; scope = scope } ∷ cs) (lam_words P l + words)
-  closed_front s t l cs words c = record {
-    store = c.store ∙ ap (λ h. record s.store { heap = h }) (let e : s.store.heap + lam_words P l + words ≡ s.store.heap + (lam_words P l + words) = omega arith in e);
-    closures = c.closures ∙ append_assoc s.closures (record { lam = l; scope = scope } ∷ []) cs;
-    globals = c.globals;
-    waiting = c.waiting;
-    moves = c.moves;
-  }
+  closed_front s t l cs words c =
+      let made : Closure = record { lam = l; scope = scope } in
+      record {
+        parts = c.parts ∙ ap (λ h. record (parts_of s) { store = record s.store { heap = h }; closures = s.closures ++ made ∷ [] ++ cs }) (let e : s.store.heap + lam_words P l + words ≡ s.store.heap + (lam_words P l + words) = omega arith in e)
+            ∙ ap (λ xs. record (parts_of s) { store = record s.store { heap = s.store.heap + (lam_words P l + words) }; closures = xs }) (append_assoc s.closures (made ∷ []) cs);
+        waiting = c.waiting;
+        moves = c.moves;
+      }
 
   closure_argument : (s : State) (n birth : ℕ) (env : Env) (l : ℕ) (to : Var) (code : ℕ) (kept : List Var) (args : List Arg) (ops : List FrameOp) (bs : List FrameArg) → MakesClosure cps w vars l to code kept ops
       → Arguments (closing P l scope s) (n + 1) birth ((to.0, Lasting (ClosureV n)) ∷ env) args ops bs
@@ -196,7 +197,7 @@ module _ (cps : Cps) (w : Sketch) (small : (l : ℕ) → length (w.needs l) ≤ 
     lefts = [];
     rights = [];
     gives = λ rest. refl;
-    closes = record { store = ap (λ k. record s.store { heap = k }) (let e : s.store.heap ≡ s.store.heap + 0 = omega arith in e); closures = sym (append-nil s.closures); globals = refl; waiting = refl; moves = refl };
+    closes = record { parts = ap (λ k. record (parts_of s) { store = record s.store { heap = k } }) (let e : s.store.heap ≡ s.store.heap + 0 = omega arith in e) ∙ ap (λ xs. record (parts_of s) { store = record s.store { heap = s.store.heap + 0 }; closures = xs }) (sym (append-nil s.closures)); waiting = refl; moves = refl };
     reads = refl;
     same = λ new ext tied. zip_none;
     held = h;

@@ -4,7 +4,7 @@ use Rattle.std.specs.Prelude.{option_and_then, IsSomeAnd}
 use Rattle.std.specs.Option.{option_map}
 use Rattle.std.proofs.lemmas.Bool.{eq-eqb}
 use Rattle.t_base.specs.declared.basics.Var.{Var}
-use Rattle.t_prim.specs.Values.{Val, ClosureV}
+use Rattle.t_prim.specs.Values.{Val, ClosureV, ObjectV}
 use Rattle.cps_ir.specs.declared.terms.Cps.{Cps}
 use Rattle.cps_ir.specs.States.{Scope, At, State}
 use Rattle.frame_ir.specs.declared.args.Arg.{Arg as FrameArg}
@@ -15,7 +15,7 @@ use Rattle.frame_ir.specs.declared.forms.FrameEnd.TheVariants as Last
 use Rattle.frame_ir.specs.declared.forms.Block.{Block}
 use Rattle.frame_ir.specs.declared.forms.Frames.{Frames}
 use Rattle.t_base.specs.declared.shared_parts.Shared.{Shared}
-use Rattle.frame_ir.specs.Values.{Value, Lasting, InFrame, CellAt, Frame, Closure as FrameClosure, Env, value_at, lasting_of, value_in, captured_in, kept_or}
+use Rattle.frame_ir.specs.Values.{Value, Lasting, InFrame, CellAt, Frame, Closure as FrameClosure, Object as FrameObject, Env, value_at, lasting_of, value_in, captured_in, kept_or}
 use Rattle.frame_ir.specs.States.{Running, State as FrameState, going, counted, wrong, or_wrong, youngest}
 use Rattle.frame_ir.specs.Arguments.{values_of, kept_values, bound}
 use Rattle.frame_ir.specs.Calls.{jumped, begun}
@@ -24,7 +24,7 @@ use Rattle.frame_ir.specs.Running.{step}
 use Rattle.layout_relation.specs.Links.{IsIn, first, later, zip_none, zip_one, Links}
 use Rattle.layout_relation.specs.Contexts.{paired, IsUnused, Start, Purpose, Begins}
 use Rattle.layout_relation.specs.Laid.{Sketch, IsFor, numbers, AreDistinct, variables, Fetches, fetches_none, fetches_one, BlockFits, IsLaidOut}
-use Rattle.layout_relation.specs.Related.{Leads, HoldAll, IsCaptured, AreCaptured, Waits, SameMade, SameDoing, same_term, Related}
+use Rattle.layout_relation.specs.Related.{parts_at, Leads, HoldAll, IsCaptured, AreCaptured, Waits, SameMade, SameDoing, same_term, Related}
 use Rattle.layout_relation.proofs.Lists.{zipped_at, zipped_length, in_is_not, in_cases, in_none}
 use Rattle.layout_relation.proofs.Scopes.{eqb_flip, eqb_same, other_value, hold_set, hold_more}
 use Rattle.layout_relation.proofs.Paths.{Path, stays, steps, follows}
@@ -98,9 +98,7 @@ block_at cps p laid k purpose e = by (slice_get p.blocks.items k) refl (laid.blo
 -- ---- only moves are counted
 
 pub record OnlyCounts (t u : FrameState) : Type 0 where
-  pub store : u.store ≡ t.store
-  pub closures : u.closures ≡ t.closures
-  pub globals : u.globals ≡ t.globals
+  pub parts : parts_at u ≡ parts_at t
   pub frames : u.frames ≡ t.frames
   pub live : u.live ≡ t.live
 
@@ -137,8 +135,8 @@ module _ (cps : Cps) (p : Frames) (laid : IsLaidOut cps p) (Low : ℕ → ℕ �
           path = steps p Low t end (1 + length args) one (omega arith) low;
           related = record {
             links = links;
-            made = remade cps w links s s u end made refl refl refl refl refl refl;
-            doing = subst (λ c. SameDoing cps w links u.frames s.waiting u.live c (Running b.block.ops.items b.block.last (bound b.block.params vs))) (sym control)
+            made = remade cps w links s s u end made refl refl;
+            doing = subst (λ c. SameDoing cps w links u.frames u.objects s.waiting u.live c (Running b.block.ops.items b.block.last (bound b.block.params vs))) (sym control)
                 (same_term (record { vars = paired start.vars b.block.params; exits = start.exits; catches = start.catches }) start.term scope b.block.ops.items b.block.last (bound b.block.params vs) b.fits.lays
                 (bound_hold w links scope start.vars vs b.block.params captured b.fits.count b.fits.distinct) leads waits);
           };
@@ -157,14 +155,14 @@ module _ (cps : Cps) (p : Frames) (laid : IsLaidOut cps p) (Low : ℕ → ℕ �
     pub stays : value_at env2 apart ≡ value_at env apart
 
   pub fetched_none : (links : Links) (scope : Scope) (vars : List (ℕ × ℕ)) (rest : List FrameOp) (last : FrameEnd) (env : Env) (u : FrameState) (apart : ℕ) → HoldAll w links scope env vars → Fetched links scope vars [] rest last env u apart 0
-  fetched_none links scope vars rest last env u apart h = record { env2 = env; state = u; counts = record { store = refl; closures = refl; globals = refl; frames = refl; live = refl }; path = stays p Low (going (Running rest last env) u); held = h; stays = refl }
+  fetched_none links scope vars rest last env u apart h = record { env2 = env; state = u; counts = record { parts = refl; frames = refl; live = refl }; path = stays p Low (going (Running rest last env) u); held = h; stays = refl }
 
   fetched_one : (links : Links) (scope : Scope) (behind : List (ℕ × ℕ)) (op : FrameOp) (ops rest : List FrameOp) (last : FrameEnd) (env : Env) (u : FrameState) (apart y n most : ℕ) (v : Value) → step p (going (Running (op ∷ ops ++ rest) last env) u) ≡ going (Running (ops ++ rest) last ((y, v) ∷ env)) (counted n u)
       → (y == apart) ≡ false → Low u.store.heap (length u.live) → Fetched links scope behind ops rest last ((y, v) ∷ env) (counted n u) apart most → Fetched links scope behind (op ∷ ops) rest last env u apart (n + most)
   fetched_one links scope behind op ops rest last env u apart y n most v one e low f = record {
     env2 = f.env2;
     state = f.state;
-    counts = record { store = f.counts.store; closures = f.counts.closures; globals = f.counts.globals; frames = f.counts.frames; live = f.counts.live };
+    counts = record { parts = f.counts.parts; frames = f.counts.frames; live = f.counts.live };
     path = follows p Low _ (going (Running (ops ++ rest) last ((y, v) ∷ env)) (counted n u)) _ n most (steps p Low (going (Running (op ∷ ops ++ rest) last env) u) (going (Running (ops ++ rest) last ((y, v) ∷ env)) (counted n u)) n one (omega arith) low) f.path;
     held = f.held;
     stays = f.stays ∙ other_value y apart v env e;
@@ -213,3 +211,22 @@ module _ (cps : Cps) (p : Frames) (laid : IsLaidOut cps p) (Low : ℕ → ℕ �
       let fetched = closure_fetches links scope kept self ((x, y.0) ∷ bs) as_ ms rest last ((y.0, found.y) ∷ env) (counted 2 u) i c (other_value y.0 self.0 found.y env other ∙ at) is captured low (held_more links scope env bs x y.0 found.y found.related unused h) more in
       subst (λ n. Fetched links scope as_ (Op.ClosureGet y self slot ∷ ms) rest last env u self.0 n) (let e : 2 + 2 * length ms ≡ 2 * suc (length ms) = omega arith in e)
       (fetched_one links scope as_ (Op.ClosureGet y self slot) ms rest last env u self.0 y.0 2 (2 * length ms) found.y (closure_get y self slot (ms ++ rest) last env u i c found.y at is found.is) other low fetched)
+
+  object_get : (to self : Var) (slot : ℕ) (ops : List FrameOp) (last : FrameEnd) (env : Env) (u : FrameState) (i : ℕ) (x : FrameObject) (v : Value) → value_at env self.0 ≡ Some (Lasting (ObjectV i)) → slice_get u.objects i ≡ Some x → slice_get x.captured slot ≡ Some v
+      → step p (going (Running (Op.ClosureGet to self slot ∷ ops) last env) u) ≡ going (Running ops last ((to.0, v) ∷ env)) (counted 2 u)
+  object_get to self slot ops last env u i x v at is got =
+      let t = going (Running (Op.ClosureGet to self slot ∷ ops) last env) u in
+      let go : Value → FrameState = λ w. going (Running ops last ((to.0, w) ∷ env)) (counted 2 t) in
+      ap (λ o. or_wrong o t (λ v. captured_by v slot t go)) at
+      ∙ ap (λ o. or_wrong o t (λ c. or_wrong (slice_get c.captured slot) t go)) is
+      ∙ ap (λ o. or_wrong o t go) got
+
+  pub object_fetches : (links : Links) (scope : Scope) (kept : List ℕ) (self : Var) (before behind : List (ℕ × ℕ)) (ops rest : List FrameOp) (last : FrameEnd) (env : Env) (u : FrameState) (i : ℕ) (x : FrameObject) → value_at env self.0 ≡ Some (Lasting (ObjectV i))
+      → slice_get u.objects i ≡ Some x → AreCaptured w links scope kept x.captured → Low u.store.heap (length u.live) → HoldAll w links scope env before → Fetches (λ y slot. Op.ClosureGet y self slot) self.0 kept before behind ops
+      → Fetched links scope behind ops rest last env u self.0 (2 * length ops)
+  object_fetches links scope kept self before behind ops rest last env u i c at is captured low h (fetches_none vars) = subst (λ n. Fetched links scope vars [] rest last env u self.0 n) (let e : 0 ≡ 2 * 0 = omega arith in e) (fetched_none links scope vars rest last env u self.0 h)
+  object_fetches links scope kept self before behind ops rest last env u i c at is captured low h (fetches_one x y slot bs as_ ms e unused other more) =
+      let found = zipped_at (IsCaptured w links scope) kept c.captured slot x captured e in
+      let fetched = object_fetches links scope kept self ((x, y.0) ∷ bs) as_ ms rest last ((y.0, found.y) ∷ env) (counted 2 u) i c (other_value y.0 self.0 found.y env other ∙ at) is captured low (held_more links scope env bs x y.0 found.y found.related unused h) more in
+      subst (λ n. Fetched links scope as_ (Op.ClosureGet y self slot ∷ ms) rest last env u self.0 n) (let e : 2 + 2 * length ms ≡ 2 * suc (length ms) = omega arith in e)
+      (fetched_one links scope as_ (Op.ClosureGet y self slot) ms rest last env u self.0 y.0 2 (2 * length ms) found.y (object_get y self slot (ms ++ rest) last env u i c found.y at is found.is) other low fetched)

@@ -58,7 +58,7 @@ module _ (cps : Cps) (p : Frames) (laid : IsLaidOut cps p) (Low : ℕ → ℕ �
       reaches_step cps p w Low (going_to (Calling v vs) s) at end (1 + length bs) 0 top (call_step g bs env u r rs e f) (omega arith) low (record {
         end = end;
         path = record { count = 0; goes = refl; moves = omega arith; low = λ i a b. absurd (omega (arith, a, b)) };
-        related = record { links = links; made = remade cps w links s (going_to (Calling v vs) s) u end made refl refl refl refl refl refl; doing = same_call v r vs rs same sames waits };
+        related = record { links = links; made = remade cps w links s (going_to (Calling v vs) s) u end made refl refl; doing = same_call v r vs rs same sames waits };
       })
 
   pub tail_reaches : (c : Context) (t : ℕ) (scope : Scope) (env : Env) (s : State) (u : FrameState) (f : Arg) (args : List Arg) (k : Var) (ms : List FrameOp) (b : FrameArg) (bs : List FrameArg) → Prepares cps w c.vars (f ∷ args) ms (b ∷ bs)
@@ -139,7 +139,7 @@ module _ (cps : Cps) (p : Frames) (laid : IsLaidOut cps p) (Low : ℕ → ℕ �
       let count : suc (length x.right.live) ≡ waiting_count final.waiting = waits_count w x.links2 pushed.frames [] (Back q.pending ∷ x.left.waiting) (length x.right.frames ∷ x.right.live) waits in
       let final_count = ap (λ z. waiting_count z.waiting) there in
       let low2 : Low pushed.store.heap (length pushed.live) = g.low x.right.store.heap (suc (length x.right.live)) (let e = x.made.store.heap in omega (arith, e, heap)) (inr (omega (arith, count, final_count))) in
-      let made2 : SameMade cps w x.links2 s2 pushed = remade cps w x.links2 x.left s2 x.right pushed x.made refl refl refl refl refl refl in
+      let made2 : SameMade cps w x.links2 s2 pushed = remade cps w x.links2 x.left s2 x.right pushed x.made refl refl in
       let path = more_path_at p Low (going (Running (ms ++ Op.Push kept back ∷ []) last env) u) at (length (f ∷ args) * (1 + cps.shared.size)) ((1 + length args) * (1 + cps.shared.size)) (let e : suc (length args) * (1 + cps.shared.size) ≡ (1 + length args) * (1 + cps.shared.size) = ap (λ n. n * (1 + cps.shared.size)) (let z : suc (length args) ≡ 1 + length args = omega arith in z) in omega (arith, e)) (x.path (λ h le. g.low h (length u.live) (omega (arith, le, heap)) (inl (omega arith)))) in
       subst (λ z. Reaches cps p w Low z (going (Running (ms ++ Op.Push kept back ∷ []) last env) u) ((1 + length args) * (1 + cps.shared.size) + ((1 + length kept) + (1 + length bs + 0))) (w.rank t)) (sym there)
       (reaches_after cps p w Low final (going (Running (ms ++ Op.Push kept back ∷ []) last env) u) at ((1 + length args) * (1 + cps.shared.size)) ((1 + length kept) + (1 + length bs + 0)) (w.rank t) path

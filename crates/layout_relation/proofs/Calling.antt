@@ -1,12 +1,12 @@
 -- Calls: what a procedure does at operands, on both sides.
-use Rattle.std.proofs.Common.{◌≡◌, ℕ, suc, ◌+◌, ◌*◌, ◌==◌, Bool, true, false, if◌then◌else◌, List, [], ◌∷◌, ◌++◌, length, map, Some, None, slice_get, refl, sym, ap, subst, ◌∙◌, arith, length-append, append-nil}
+use Rattle.std.proofs.Common.{◌≡◌, ◌≤◌, ℕ, suc, ◌+◌, ◌*◌, ◌==◌, Bool, true, false, if◌then◌else◌, List, [], ◌∷◌, ◌++◌, length, map, Some, None, slice_get, refl, sym, ap, subst, ◌∙◌, arith, length-append, append-nil}
 use Rattle.std.specs.List.{AllByRecursion}
 use Rattle.std.proofs.lemmas.Bool.{eq-eqb, ne_eqb, eqb-true, eqb-false}
 use Rattle.program_runs.specs.Runs as runs
 use Rattle.t_base.specs.declared.basics.Var.{Var}
 use Rattle.t_base.specs.declared.faults.Fault.{Fault}
 use Rattle.t_base.specs.declared.faults.Fault.TheVariants.{WrongCount}
-use Rattle.t_prim.specs.Values.{Val, ClosureV}
+use Rattle.t_prim.specs.Values.{Val, ClosureV, ObjectV}
 use Rattle.cps_ir.specs.declared.terms.Lam.{Lam}
 use Rattle.cps_ir.specs.declared.terms.Cps.{Cps}
 use Rattle.cps_ir.specs.Reaches.{is_in}
@@ -15,6 +15,7 @@ use Rattle.cps_ir.specs.Giving.{meant_by, binding_all, or_broken}
 use Rattle.cps_ir.specs.Calls.{begun as begun_to, entered as entered_to}
 use Rattle.frame_ir.specs.declared.forms.FrameOp.{FrameOp}
 use Rattle.frame_ir.specs.declared.forms.FrameOp.TheVariants as Op
+use Rattle.frame_ir.specs.declared.forms.FrameEnd.TheVariants as Last
 use Rattle.frame_ir.specs.declared.forms.Block.{Block}
 use Rattle.frame_ir.specs.declared.forms.Frames.{Frames}
 use Rattle.frame_ir.specs.Values.{Value, Lasting, Closure as FrameClosure, Env, value_at}
@@ -22,14 +23,14 @@ use Rattle.frame_ir.specs.States.{Running, Ended as EndedAt, State as FrameState
 use Rattle.frame_ir.specs.Arguments.{bound}
 use Rattle.frame_ir.specs.Calls.{begun, entered}
 use Rattle.layout_relation.specs.Links.{IsIn, Zipped, zip_none, zip_one, Links, SameVal}
-use Rattle.layout_relation.specs.Contexts.{OwnExit, paired, Start, CodeOf}
-use Rattle.layout_relation.specs.Laid.{Sketch, IsFor, numbers, AreDistinct, variables, Fetches, fetches_none, fetches_one, CodeFits, IsLaidOut}
-use Rattle.layout_relation.specs.Related.{Leads, leads_own, leads_bound, HoldAll, IsCaptured, AreCaptured, Waits, SameMade, same_end}
+use Rattle.layout_relation.specs.Contexts.{MethodOf, Begins, OwnExit, paired, Start, CodeOf}
+use Rattle.layout_relation.specs.Laid.{AreHeld, Sketch, IsFor, numbers, AreDistinct, variables, Fetches, fetches_none, fetches_one, CodeFits, MethodFits, most_needs, IsLaidOut}
+use Rattle.layout_relation.specs.Related.{IsObjectFirst, Leads, leads_own, leads_bound, HoldAll, IsCaptured, AreCaptured, Waits, SameMade, same_end}
 use Rattle.layout_relation.proofs.Lists.{zipped_length, zipped_more, in_is_not, is_in_head}
 use Rattle.layout_relation.proofs.Scopes.{other_meant, eqb_same}
 use Rattle.layout_relation.proofs.Making.{kept_all}
 use Rattle.layout_relation.proofs.Preparing.{remade}
-use Rattle.layout_relation.proofs.Arriving.{bound_hold, bound_later, in_numbers, variables_read, variables_count, block_at, Arrives, arrives_after, arrives_more, jump_arrives, Fetched, fetched_none, closure_fetches}
+use Rattle.layout_relation.proofs.Arriving.{bound_hold, bound_later, in_numbers, variables_read, variables_count, block_at, Arrives, arrives_after, arrives_more, jump_arrives, Fetched, fetched_none, closure_fetches, object_fetches}
 use Rattle.layout_relation.proofs.Handing.{LowBelow, bound_to, direct_same, captured_inside}
 
 -- parameters with operands, in the scope
@@ -110,7 +111,7 @@ module _ (cps : Cps) (p : Frames) (laid : IsLaidOut cps p) (Low : ℕ → ℕ �
     arrives = record {
       end = faulted fault t;
       path = record { count = 0; goes = refl; moves = omega arith; low = λ i a b. absurd (omega (arith, a, b)) };
-      related = record { links = links; made = remade cps w links s (faulted_to fault s) t (faulted fault t) made refl refl refl refl refl refl; doing = same_end (runs.Faulted fault) (EndedAt (runs.Faulted fault)) refl };
+      related = record { links = links; made = remade cps w links s (faulted_to fault s) t (faulted fault t) made refl refl; doing = same_end (runs.Faulted fault) (EndedAt (runs.Faulted fault)) refl };
     };
     moves = refl;
     store = refl;
@@ -139,21 +140,36 @@ module _ (cps : Cps) (p : Frames) (laid : IsLaidOut cps p) (Low : ℕ → ℕ �
   both_apart needs [] h = (tt, tt)
   both_apart needs (x ∷ xs) h = let more = both_apart needs xs h.1 in ((h.0.0, more.0), (h.0.1, more.1))
 
+  -- what holds of the codes of procedures and of methods alike
+  record Tail (l : ℕ) (b : Block) : Type 0 where
+    lam : Lam
+    vars : List (ℕ × ℕ)
+    ys : List Var
+    body : ℕ
+    few : length lam.params ≤ 20
+    short : length b.ops.items ≤ most_needs cps
+    goes : b.last ≡ Last.Jump body (variables ys)
+    begins : IsFor w body (Begins (record { vars = numbers lam.params ++ w.needs l; exits = OwnExit lam.k.0; catches = []; term = lam.body }))
+    held : AreHeld vars (numbers lam.params ++ w.needs l) ys
+
+  abbrev code_tail : (l : ℕ) (b : Block) → CodeFits cps w l b → Tail l b
+  code_tail l b fits = record { lam = fits.lam; vars = fits.vars; ys = fits.ys; body = fits.body; few = fits.few; short = fits.short; goes = fits.goes; begins = fits.begins; held = fits.held }
+
   -- the code has fetched what the procedure needs, and goes on to the body
-  body_arrives : (links : Links) (s : State) (t : FrameState) (lam : Lam) (l : ℕ) (b : Block) (fits : CodeFits cps w l b) (scope : Scope) (env : Env) → Fetched cps p laid Low links scope fits.vars b.ops.items [] b.last env t fits.self.0 (2 * length b.ops.items)
+  body_arrives : (links : Links) (s : State) (t : FrameState) (self : ℕ) (l : ℕ) (b : Block) (fits : Tail l b) (scope : Scope) (env : Env) → Fetched cps p laid Low links scope fits.vars b.ops.items [] b.last env t self (2 * length b.ops.items)
       → Leads scope (OwnExit fits.lam.k.0) → Waits w links t.frames [] s.waiting t.live → SameMade cps w links s t → LowBelow cps p laid Low t
       → Arrives cps p w Low (going_to (At fits.lam.body scope) s) (going (Running b.ops.items b.last env) t) entry_moves
-  body_arrives links s t lam l b fits scope env f leads waits made low =
+  body_arrives links s t self l b fits scope env f leads waits made low =
       let s2 = going_to (At fits.lam.body scope) s in
       let u = f.state in
       let names = numbers fits.lam.params ++ w.needs l in
       let k = kept_all w links scope f.env2 fits.vars names fits.ys f.held fits.held in
       let start : Start = record { vars = names; exits = OwnExit fits.lam.k.0; catches = []; term = fits.lam.body } in
       let args = variables fits.ys in
-      let lows = subst (λ st. Low st.heap (length u.live)) (sym f.counts.store) (subst (λ x. Low t.store.heap (length x)) (sym f.counts.live) (low (length t.live) (omega arith))) in
+      let lows = subst (λ st. Low st.heap (length u.live)) (sym (ap (λ x. x.store) f.counts.parts)) (subst (λ x. Low t.store.heap (length x)) (sym f.counts.live) (low (length t.live) (omega arith))) in
       let jumps = jump_arrives cps p laid Low links s2 u scope f.env2 fits.body start args k.values fits.begins (variables_read p.shared f.env2 fits.ys ∙ k.are) k.captured leads
       (subst (λ fs. Waits w links fs [] s.waiting u.live) (sym f.counts.frames) (subst (λ x. Waits w links t.frames [] s.waiting x) (sym f.counts.live) waits))
-      (remade cps w links s s2 t u made refl refl refl f.counts.store f.counts.closures f.counts.globals) refl lows in
+      (remade cps w links s s2 t u made refl f.counts.parts) refl lows in
       let here = subst (λ x. Arrives cps p w Low s2 (going (Running [] x f.env2) u) (1 + length args)) (sym fits.goes) jumps.0 in
       let whole = arrives_after cps p w Low s2 (going (Running (b.ops.items ++ []) b.last env) t) (going (Running [] b.last f.env2) u) (2 * length b.ops.items) (1 + length args) f.path here in
       let total = subst (λ os. Arrives cps p w Low s2 (going (Running os b.last env) t) (2 * length b.ops.items + (1 + length args))) (append-nil b.ops.items) whole in
@@ -191,7 +207,7 @@ module _ (cps : Cps) (p : Frames) (laid : IsLaidOut cps p) (Low : ℕ → ℕ �
       let held = bound_later w links scope (bound fits.params (map Lasting ys)) (paired names fits.params) fits.self.0 (Lasting self) (λ a d i. in_is_not (numbers fits.params) fits.self.0 d fits.distinct.0 (in_numbers names fits.params a d i)) held0 in
       let leads = bounds_lead fits.lam.params xs inner fits.lam.k.0 (leads_own fits.lam.k.0 c.scope) in
       stands_by (begun_to P fits.lam c xs s) s2 t (begun b (bound b.params (Lasting self ∷ map Lasting ys)) t) (going (Running b.ops.items b.last env) t) entry_moves there takes (record {
-        arrives = body_arrives links s t fits.lam c.lam b fits scope env (source_fetches links t c b fits self scope env (ap (λ x. if x then Some (Lasting self) else value_at (bound fits.params (map Lasting ys)) fits.self.0) (eqb_same fits.self.0)) source (λ us h. captured_behind links fits.lam.params xs inner (w.needs c.lam) us parts.0 (begun_captured links fits.lam.k.0 c.scope (w.needs c.lam) us h)) held low) leads waits made low;
+        arrives = body_arrives links s t fits.self.0 c.lam b (code_tail c.lam b fits) scope env (source_fetches links t c b fits self scope env (ap (λ x. if x then Some (Lasting self) else value_at (bound fits.params (map Lasting ys)) fits.self.0) (eqb_same fits.self.0)) source (λ us h. captured_behind links fits.lam.params xs inner (w.needs c.lam) us parts.0 (begun_captured links fits.lam.k.0 c.scope (w.needs c.lam) us h)) held low) leads waits made low;
         moves = refl;
         store = refl;
         live = refl;
@@ -224,3 +240,55 @@ module _ (cps : Cps) (p : Frames) (laid : IsLaidOut cps p) (Low : ℕ → ℕ �
       ∙ ap (λ x. if x then begun at.block (bound at.block.params vs) t else faulted WrongCount t) same_test in
       stands_by (entered_to P c xs s) (if n then begun_to P fits.lam c xs s else faulted_to WrongCount s) t (entered p code vs t) (if n then begun at.block (bound at.block.params vs) t else faulted WrongCount t) entry_moves left right
       (wrong_count links s t c at.block fits self xs ys source same waits made low n refl same_test)
+
+  -- ---- a method
+
+  abbrev method_tail : (l : ℕ) (kept : List ℕ) (b : Block) → MethodFits cps w l kept b → Tail l b
+  method_tail l kept b fits = record { lam = fits.lam; vars = fits.vars; ys = fits.ys; body = fits.body; few = fits.few; short = fits.short; goes = fits.goes; begins = fits.begins; held = fits.held }
+
+  method_runs : (links : Links) (s : State) (t : FrameState) (c : Closure) (b : Block) (kept : List ℕ) (fits : MethodFits cps w c.lam kept b) (captured : List Value) (xs ys : List Val) → AreCaptured w links c.scope kept captured → IsObjectFirst t.objects ys captured → Zipped (SameVal links) xs ys
+      → Waits w links t.frames [] s.waiting t.live → SameMade cps w links s t → LowBelow cps p laid Low t → length fits.lam.params ≡ length xs → Stands (begun_to P fits.lam c xs s) t (begun b (bound b.params (map Lasting ys)) t) entry_moves
+  method_runs links s t c b kept fits captured xs ys holds front same waits made low count =
+      let inner : Scope = Begun fits.lam.k.0 ∷ c.scope in
+      let scope = bounds fits.lam.params xs inner in
+      let s2 = going_to (At fits.lam.body scope) s in
+      let there : begun_to P fits.lam c xs s ≡ s2 = bind_all fits.lam.params xs inner s (λ scope t. going_to (At fits.lam.body scope) t) count in
+      let env : Env = bound (fits.self ∷ fits.params) (map Lasting ys) in
+      let takes : begun b (bound b.params (map Lasting ys)) t ≡ going (Running b.ops.items b.last env) t = ap (λ ps. going (Running b.ops.items b.last (bound ps (map Lasting ys))) t) fits.takes in
+      let names = numbers fits.lam.params in
+      let parts = both_apart kept names fits.apart in
+      let params = params_captured links fits.lam.params xs ys inner same count fits.once parts.1 in
+      let held = bound_hold w links scope names (map Lasting ys) (fits.self ∷ fits.params) params (let a = numbers_count fits.lam.params in let e = fits.count in omega (arith, a, e)) fits.distinct in
+      let leads = bounds_lead fits.lam.params xs inner fits.lam.k.0 (leads_own fits.lam.k.0 c.scope) in
+      let at : value_at env fits.self.0 ≡ Some (Lasting (ObjectV front.object)) = ap (λ vs. value_at (bound (fits.self ∷ fits.params) (map Lasting vs)) fits.self.0) front.are ∙ ap (λ x. if x then Some (Lasting (ObjectV front.object)) else value_at (bound fits.params (map Lasting front.others)) fits.self.0) (eqb_same fits.self.0) in
+      let captured2 = captured_behind links fits.lam.params xs inner kept captured parts.0 (begun_captured links fits.lam.k.0 c.scope kept captured holds) in
+      let fetched = object_fetches cps p laid Low links scope kept fits.self (paired names (fits.self ∷ fits.params)) fits.vars b.ops.items [] b.last env t front.object front.found at front.is (subst (λ vs. AreCaptured w links scope kept vs) (sym front.holds) captured2) (low (length t.live) (omega arith)) held fits.fetches in
+      stands_by (begun_to P fits.lam c xs s) s2 t (begun b (bound b.params (map Lasting ys)) t) (going (Running b.ops.items b.last env) t) entry_moves there takes (record {
+        arrives = body_arrives links s t fits.self.0 c.lam b (method_tail c.lam kept b fits) scope env fetched leads waits made low;
+        moves = refl;
+        store = refl;
+        live = refl;
+      })
+
+  method_count : (links : Links) (s : State) (t : FrameState) (c : Closure) (b : Block) (kept : List ℕ) (fits : MethodFits cps w c.lam kept b) (captured : List Value) (xs ys : List Val) → AreCaptured w links c.scope kept captured → IsObjectFirst t.objects ys captured → Zipped (SameVal links) xs ys
+      → Waits w links t.frames [] s.waiting t.live → SameMade cps w links s t → LowBelow cps p laid Low t → (n : Bool) → (length fits.lam.params == length xs) ≡ n
+      → Stands (if n then begun_to P fits.lam c xs s else faulted_to WrongCount s) t (if n then begun b (bound b.params (map Lasting ys)) t else faulted WrongCount t) entry_moves
+  method_count links s t c b kept fits captured xs ys holds front same waits made low true e = method_runs links s t c b kept fits captured xs ys holds front same waits made low (eqb-true (length fits.lam.params) (length xs) e)
+  method_count links s t c b kept fits captured xs ys holds front same waits made low false e = fault_stands links s t WrongCount entry_moves made
+
+  pub method_stands : (links : Links) (s : State) (t : FrameState) (c : Closure) (code : ℕ) (captured : List Value) (kept : List ℕ) (xs ys : List Val) → IsFor w code (MethodOf c.lam kept) → AreCaptured w links c.scope kept captured → IsObjectFirst t.objects ys captured → Zipped (SameVal links) xs ys
+      → Waits w links t.frames [] s.waiting t.live → SameMade cps w links s t → LowBelow cps p laid Low t → Stands (entered_to P c xs s) t (entered p code (map Lasting ys) t) entry_moves
+  method_stands links s t c code captured kept xs ys for holds front same waits made low =
+      let at = block_at cps p laid code (MethodOf c.lam kept) for in
+      let fits = at.fits in
+      let vs = map Lasting ys in
+      let n = length fits.lam.params == length xs in
+      let left : entered_to P c xs s ≡ (if n then begun_to P fits.lam c xs s else faulted_to WrongCount s) = ap (λ o. or_broken o s (λ lam. if length lam.params == length xs then begun_to P lam c xs s else faulted_to WrongCount s)) fits.is in
+      let same_test : (length at.block.params == length vs) ≡ n =
+      let a = ap length fits.takes in let b = fits.count in let d = map_count Lasting ys in let e = zipped_length _ _ _ same in
+      counts_alike (length fits.lam.params) (length xs) (length at.block.params) (length vs) n refl (λ h. omega (arith, a, b, d, e, h)) (λ h. omega (arith, a, b, d, e, h)) in
+      let right : entered p code vs t ≡ (if n then begun at.block (bound at.block.params vs) t else faulted WrongCount t) =
+      ap (λ o. or_wrong o t (λ b. if length b.params == length vs then begun b (bound b.params vs) t else faulted WrongCount t)) at.is
+      ∙ ap (λ x. if x then begun at.block (bound at.block.params vs) t else faulted WrongCount t) same_test in
+      stands_by (entered_to P c xs s) (if n then begun_to P fits.lam c xs s else faulted_to WrongCount s) t (entered p code vs t) (if n then begun at.block (bound at.block.params vs) t else faulted WrongCount t) entry_moves left right
+      (method_count links s t c at.block kept fits captured xs ys holds front same waits made low n refl)

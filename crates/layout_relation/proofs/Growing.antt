@@ -1,13 +1,13 @@
 -- What is the same stays the same when more is tied and more frames are pushed.
-use Rattle.std.proofs.Common.{◌≡◌, ℕ, Bool, List, Some, Option, slice_get}
+use Rattle.std.proofs.Common.{arith, ◌≡◌, ℕ, Bool, List, Some, Option, slice_get}
 use Rattle.std.specs.List.{AllZip}
 use Rattle.t_prim.specs.Values.{Val, Store}
-use Rattle.cps_ir.specs.States.{Meant, Scope, Closure, Waiting}
-use Rattle.frame_ir.specs.Values.{Value, Frame, Env, Closure as FrameClosure}
+use Rattle.cps_ir.specs.States.{Meant, Scope, Closure, Handler, Object, Waiting}
+use Rattle.frame_ir.specs.Values.{Value, Frame, Env, Closure as FrameClosure, Object as FrameObject}
 use Rattle.layout_relation.specs.Links.{Zipped, SameOption, neither, both, Links, Extends, SameVal, fix, char, nil, truth, symbol, string, pair, vector, closure, object, operation, builtin, escape, SameMeant, value, cell, SamePair, SameList, SameStore}
 use Rattle.layout_relation.specs.Contexts.{Catching}
 use Rattle.layout_relation.specs.Laid.{Sketch}
-use Rattle.layout_relation.specs.Related.{HoldAll, IsCaptured, AreCaptured, SameClosure, Waits, waits_none, waits_back}
+use Rattle.layout_relation.specs.Related.{SameHandler, SameObject, HoldAll, IsCaptured, AreCaptured, SameClosure, Waits, waits_none, waits_back}
 use Rattle.layout_relation.proofs.Lists.{all_zip_more, zipped_more}
 
 module _ (old new : Links) (more : Extends old new) where
@@ -21,14 +21,14 @@ module _ (old new : Links) (more : Extends old new) where
   val_grows a b (pair k) = pair k
   val_grows a b (vector k) = vector k
   val_grows a b (closure i j h) = closure i j (more.closures i j h)
-  val_grows a b (object i j h) = object i j (more.objects i j h)
+  val_grows a b (object i lt) = object i (let up = more.objects in omega (arith, lt, up))
   val_grows a b (operation o) = operation o
   val_grows a b (builtin p) = builtin p
   val_grows a b (escape i j h) = escape i j (more.escapes i j h)
 
   pub meant_grows : (celled : Bool) (m : Meant) (v : Value) → SameMeant old celled m v → SameMeant new celled m v
   meant_grows celled m v (value a b h) = value a b (val_grows a b h)
-  meant_grows celled m v (cell i j h) = cell i j (more.cells i j h)
+  meant_grows celled m v (cell i lt) = cell i (let up = more.cells in omega (arith, lt, up))
 
   pub vals_grow : (xs ys : List Val) → Zipped (SameVal old) xs ys → Zipped (SameVal new) xs ys
   vals_grow xs ys h = zipped_more (SameVal old) (SameVal new) val_grows xs ys h
@@ -59,6 +59,24 @@ module _ (old new : Links) (more : Extends old new) where
   pub closure_grows : (w : Sketch) (c : Closure) (r : FrameClosure) → SameClosure w old c r → SameClosure w new c r
   closure_grows w c r h = record { runs = h.runs; captured = captured_grows w c.scope (w.needs c.lam) r.captured h.captured }
 
+  handler_grows : (w : Sketch) (captured : List Value) (kept : List ℕ) (h : Handler) (m : ℕ × ℕ) → SameHandler w old captured kept h m → SameHandler w new captured kept h m
+  handler_grows w captured kept h m k = record { op = k.op; runs = k.runs; holds = captured_grows w h.closure.scope kept captured k.holds }
+
+  object_grows : (w : Sketch) (x : Object) (y : FrameObject) → SameObject w old x y → SameObject w new x y
+  object_grows w x y h = record {
+    procedure = val_grows x.procedure y.procedure h.procedure;
+    kept = h.kept;
+    methods = h.methods;
+    template = h.template;
+    handlers = zipped_more (SameHandler w old y.captured h.kept) (SameHandler w new y.captured h.kept) (handler_grows w y.captured h.kept) x.handlers h.methods h.handlers;
+  }
+
+  pub objects_grow : (w : Sketch) (xs : List Object) (ys : List FrameObject) → AllZip (SameObject w old) xs ys → AllZip (SameObject w new) xs ys
+  objects_grow w xs ys h = all_zip_more (SameObject w old) (SameObject w new) (object_grows w) xs ys h
+
+  pub cells_grow : (xs ys : List Val) → AllZip (SameVal old) xs ys → AllZip (SameVal new) xs ys
+  cells_grow xs ys h = all_zip_more (SameVal old) (SameVal new) val_grows xs ys h
+
   pub waits_grow : (w : Sketch) (fs gs : List Frame) → ((i : ℕ) (f : Frame) → slice_get fs i ≡ Some f → slice_get gs i ≡ Some f)
       → (cs : List Catching) (waiting : List Waiting) (live : List ℕ) → Waits w old fs cs waiting live → Waits w new gs cs waiting live
   waits_grow w fs gs there cs waiting live waits_none = waits_none
@@ -68,4 +86,4 @@ module _ (old new : Links) (more : Extends old new) where
       (waits_grow w fs gs there r.catches rest older h)
 
 pub extends_itself : (links : Links) → Extends links links
-extends_itself links = record { closures = λ i j h. h; objects = λ i j h. h; escapes = λ i j h. h; cells = λ i j h. h }
+extends_itself links = record { closures = λ i j h. h; escapes = λ i j h. h; objects = omega arith; cells = omega arith }

@@ -52,5 +52,5 @@ module _ (cps : Cps) (p : Frames) (laid : IsLaidOut cps p) (Low : ℕ → ℕ �
       (reaches_step cps p w Low final at end 2 0 (w.rank t) one (omega arith) low (record {
         end = end;
         path = record { count = 0; goes = refl; moves = omega arith; low = λ i a b. absurd (omega (arith, a, b)) };
-        related = record { links = x.links2; made = remade cps w x.links2 x.left final x.right end x.made refl refl refl refl refl refl; doing = same_end (runs.Value (shown_of x.left.store f.v)) (EndedAt (runs.Value (shown_of x.right.store f.r))) (ap (λ v. Some (runs.Value v)) (sym shown)) };
+        related = record { links = x.links2; made = remade cps w x.links2 x.left final x.right end x.made refl refl; doing = same_end (runs.Value (shown_of x.left.store f.v)) (EndedAt (runs.Value (shown_of x.right.store f.r))) (ap (λ v. Some (runs.Value v)) (sym shown)) };
       })))

@@ -108,8 +108,8 @@ module _ (cps : Cps) (p : Frames) (laid : IsLaidOut cps p) (Low : ℕ → ℕ �
     path = record { count = 0; goes = refl; moves = omega arith; low = λ i a b. absurd (omega (arith, a, b)) };
     related = record {
       links = links;
-      made = remade cps w links s s u (going (Running ops2 last2 env) u) made refl refl refl refl refl refl;
-      doing = subst (λ x. SameDoing cps w links u.frames s.waiting u.live x (Running ops2 last2 env)) (sym control) (same_term c2 t2 scope ops2 last2 env laying h leads waits);
+      made = remade cps w links s s u (going (Running ops2 last2 env) u) made refl refl;
+      doing = subst (λ x. SameDoing cps w links u.frames u.objects s.waiting u.live x (Running ops2 last2 env)) (sym control) (same_term c2 t2 scope ops2 last2 env laying h leads waits);
     };
   }
   goes_arrives links s u c t scope ops last env (goes_to c2 t2 block needs ys for held few) h leads waits made control low =
@@ -166,13 +166,13 @@ module _ (cps : Cps) (p : Frames) (laid : IsLaidOut cps p) (Low : ℕ → ℕ �
       let u = fetched.state in
       let popped = counted 1 (with_live u older) in
       let pop = pop_step fits.rest blk.block.last fetched.env2 u birth older f.frame (fetched.counts.live ∙ live) (ap (λ fs. slice_get fs birth) fetched.counts.frames ∙ f.is) f.push in
-      let low2 : (n : ℕ) → n ≤ length older → Low u.store.heap n = λ n le. subst (λ st. Low st.heap n) (sym fetched.counts.store) (low n (let e = ap length live in omega (arith, e, le))) in
+      let low2 : (n : ℕ) → n ≤ length older → Low u.store.heap n = λ n le. subst (λ st. Low st.heap n) (sym (ap (λ x. x.store) fetched.counts.parts)) (low n (let e = ap length live in omega (arith, e, le))) in
       let c : Context = record { vars = fits.vars; exits = r.exits; catches = r.catches } in
       let onward = goes_arrives links s3 popped c pending.body scope fits.rest blk.block.last fetched.env2
       (subst (λ x. GoesOn cps w c x fits.rest blk.block.last) (sym f.body) fits.goes) fetched.held
       (leads_bound pending.param (Direct v) pending.scope r.exits (subst (λ x. IsUnneeded r.exits x) (sym f.param) fits.new.unneeded) f.leads)
       (subst (λ fs. Waits w links fs r.catches rest older) (sym fetched.counts.frames) waits)
-      (remade cps w links s s3 t popped made refl refl refl fetched.counts.store fetched.counts.closures fetched.counts.globals) refl low2 in
+      (remade cps w links s s3 t popped made refl fetched.counts.parts) refl low2 in
       let after_pop = arrives_after cps p w Low s3 (going (Running (Op.Pop ∷ fits.rest) blk.block.last fetched.env2) u) (going (Running fits.rest blk.block.last fetched.env2) popped) 1 (cps.shared.size + 4)
       (steps p Low (going (Running (Op.Pop ∷ fits.rest) blk.block.last fetched.env2) u) (going (Running fits.rest blk.block.last fetched.env2) popped) 1 pop (omega arith) (low2 (length older) (omega arith))) onward in
       let whole = arrives_after cps p w Low s3 (going (Running (fits.gets ++ Op.Pop ∷ fits.rest) blk.block.last env0) t) (going (Running (Op.Pop ∷ fits.rest) blk.block.last fetched.env2) u) (1 * length fits.gets) (1 + (cps.shared.size + 4)) fetched.path after_pop in
@@ -193,7 +193,7 @@ module _ (cps : Cps) (p : Frames) (laid : IsLaidOut cps p) (Low : ℕ → ℕ �
         arrives = subst (λ x. Arrives cps p w Low s3 x return_moves) (sym is) (record {
           end = going Wrong t;
           path = record { count = 0; goes = refl; moves = omega arith; low = λ i a b. absurd (omega (arith, a, b)) };
-          related = record { links = links; made = remade cps w links s s3 t (going Wrong t) made refl refl refl refl refl refl; doing = same_end runs.Broken Wrong refl };
+          related = record { links = links; made = remade cps w links s s3 t (going Wrong t) made refl refl; doing = same_end runs.Broken Wrong refl };
         });
         moves = ap (λ x. x.moves) is;
         store = ap (λ x. x.store) is;
@@ -228,7 +228,7 @@ module _ (cps : Cps) (p : Frames) (laid : IsLaidOut cps p) (Low : ℕ → ℕ �
       let t = going (Running [] (Last.Jump block (a ∷ variables ys)) env) u in
       let there : resumed P (record { param = param; body = body; scope = inner }) v s ≡ s2 = bound_to param v inner s (λ scope t. going_to (At body scope) t) in
       let all : AreCaptured w links scope2 (param ∷ needs) (Lasting b ∷ vs) = zip_one param (Lasting b) needs vs (record { meant = Direct v; is = found_first param (Direct v) inner; same = direct_same links param v b new.plain same }) (captured_inside links param (Direct v) inner needs vs new.apart captured) in
-      let made2 = remade cps w links s s2 u u made refl refl refl refl refl refl in
+      let made2 = remade cps w links s s2 u u made refl refl in
       let jumps = jump_arrives cps p laid Low links s2 u scope2 env block (record { vars = param ∷ needs; exits = exits; catches = catches; term = body }) (a ∷ variables ys) (Lasting b ∷ vs) for (reads_with env a b ys vs reads kept) all (leads_bound param (Direct v) inner exits new.unneeded leads) waits made2 refl (low_here u low) in
       subst (λ x. Reaches cps p w Low x t give_moves top) (sym there) (record { arrives = arrives_more cps p w Low s2 t (1 + length (a ∷ variables ys)) give_moves (omega (arith, few)) jumps.0; goes = inl jumps.1 })
 
@@ -245,8 +245,8 @@ module _ (cps : Cps) (p : Frames) (laid : IsLaidOut cps p) (Low : ℕ → ℕ �
       path = record { count = 0; goes = refl; moves = omega arith; low = λ i a b. absurd (omega (arith, a, b)) };
       related = record {
         links = links;
-        made = remade cps w links s s u (going (Running ops last env) u) made refl refl refl refl refl refl;
-        doing = subst (λ x. SameDoing cps w links u.frames s.waiting u.live x (Running ops last env)) (sym control) (same_term c body scope ops last env laying h leads waits);
+        made = remade cps w links s s u (going (Running ops last env) u) made refl refl;
+        doing = subst (λ x. SameDoing cps w links u.frames u.objects s.waiting u.live x (Running ops last env)) (sym control) (same_term c body scope ops last env laying h leads waits);
       };
     };
     goes = inr (subst (λ x. rank_of w x < w.rank t) (sym control) lower);
@@ -260,7 +260,7 @@ module _ (cps : Cps) (p : Frames) (laid : IsLaidOut cps p) (Low : ℕ → ℕ �
       let one : step p x ≡ returned_to p b (counted 2 x) = ap (λ o. or_wrong o x (λ v. returned_to p v (counted 2 x))) reads in
       let there : give P scope (Continuation.Var j) v s ≡ returned P s.waiting v s = ap (λ way. given P way v s) (leads_out scope c2.exits j.0 leads out) in
       let waits2 = subst (λ cs. Waits w links u.frames cs s.waiting u.live) none waits in
-      let back = returned_arrives links s (counted 2 x) v b waits2 same (remade cps w links s s u (counted 2 x) made refl refl refl refl refl refl) low in
+      let back = returned_arrives links s (counted 2 x) v b waits2 same (remade cps w links s s u (counted 2 x) made refl refl) low in
       subst (λ y. Reaches cps p w Low y x give_moves (w.rank t2)) (sym there) (reaches_more cps p w Low (returned P s.waiting v s) x (2 + return_moves) give_moves (w.rank t2) (omega arith) (return_reaches (returned P s.waiting v s) x (counted 2 x) b 2 (w.rank t2) one (omega arith) low back))
   gives_arrives links s u c t k scope a v b ops last env (gives_join c2 t2 j a2 m rest ys meets for held new few) reads same h leads waits made low =
       let to = leads_to scope c2.exits j.0 m rest leads meets in
@@ -279,10 +279,10 @@ module _ (cps : Cps) (p : Frames) (laid : IsLaidOut cps p) (Low : ℕ → ℕ �
       let there : give P scope (Continuation.Lam param body) v s ≡ s2 = bound_to param.0 v scope s (λ scope t. going_to (At body scope) t) in
       let held = hold_more w links scope2 env c2.vars param.0 x.0 (record { meant = Direct v; value = Lasting b; is = found_first param.0 (Direct v) scope; at = lasting_is (value_at env x.0) b reads; same = direct_same links param.0 v b plain same }) (hold_bound w links scope env c2.vars param.0 (Direct v) fresh.0 h) in
       subst (λ y. Reaches cps p w Low y (going (Running ops2 last2 env) u) give_moves (w.rank t2)) (sym there)
-      (here_reaches links s2 u (with_var param.0 x.0 c2) t2 body scope2 ops2 last2 env laying held (leads_bound param.0 (Direct v) scope c2.exits fresh.1 leads) waits (remade cps w links s s2 u u made refl refl refl refl refl refl) refl lower)
+      (here_reaches links s2 u (with_var param.0 x.0 c2) t2 body scope2 ops2 last2 env laying held (leads_bound param.0 (Direct v) scope c2.exits fresh.1 leads) waits (remade cps w links s s2 u u made refl refl) refl lower)
   gives_arrives links s u c t k scope a v b ops last env (gives_unused c2 t2 param body a2 ops2 last2 fresh lower laying) reads same h leads waits made low =
       let scope2 : Scope = Bound param.0 (Direct v) ∷ scope in
       let s2 = going_to (At body scope2) s in
       let there : give P scope (Continuation.Lam param body) v s ≡ s2 = bound_to param.0 v scope s (λ scope t. going_to (At body scope) t) in
       subst (λ y. Reaches cps p w Low y (going (Running ops2 last2 env) u) give_moves (w.rank t2)) (sym there)
-      (here_reaches links s2 u c2 t2 body scope2 ops2 last2 env laying (hold_bound w links scope env c2.vars param.0 (Direct v) fresh.0 h) (leads_bound param.0 (Direct v) scope c2.exits fresh.1 leads) waits (remade cps w links s s2 u u made refl refl refl refl refl refl) refl lower)
+      (here_reaches links s2 u c2 t2 body scope2 ops2 last2 env laying (hold_bound w links scope env c2.vars param.0 (Direct v) fresh.0 h) (leads_bound param.0 (Direct v) scope c2.exits fresh.1 leads) waits (remade cps w links s s2 u u made refl refl) refl lower)

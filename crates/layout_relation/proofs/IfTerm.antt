@@ -20,7 +20,7 @@ use Rattle.frame_ir.specs.Running.{step}
 use Rattle.layout_relation.specs.Links.{Links}
 use Rattle.layout_relation.specs.Contexts.{Context, ArmOf}
 use Rattle.layout_relation.specs.Laid.{Sketch, IsFor, Prepares, IsLaidOut}
-use Rattle.layout_relation.specs.Related.{SameMade, HoldAll, Leads, Waits, same_term}
+use Rattle.layout_relation.specs.Related.{parts_at, SameMade, HoldAll, Leads, Waits, same_term}
 use Rattle.layout_relation.proofs.Growing.{waits_grow}
 use Rattle.layout_relation.proofs.Rows.{nil_same}
 use Rattle.layout_relation.proofs.Paths.{Path}
@@ -37,23 +37,23 @@ module _ (cps : Cps) (p : Frames) (laid : IsLaidOut cps p) (Low : ℕ → ℕ �
   P = marked cps all_escape
 
   -- an arm sees what is seen at the end of the block
-  arm_reaches : (links : Links) (c : Context) (scope : Scope) (env : Env) (s : State) (at v : FrameState) (block term top : ℕ) → IsFor w block (ArmOf c term) → step p at ≡ shown p block env (counted 2 at) → SameMade cps w links s v → v.store ≡ at.store → v.closures ≡ at.closures → v.globals ≡ at.globals
+  arm_reaches : (links : Links) (c : Context) (scope : Scope) (env : Env) (s : State) (at v : FrameState) (block term top : ℕ) → IsFor w block (ArmOf c term) → step p at ≡ shown p block env (counted 2 at) → SameMade cps w links s v → parts_at v ≡ parts_at at
       → HoldAll w links scope env c.vars → Leads scope c.exits → Waits w links at.frames c.catches s.waiting at.live → Low at.store.heap (length at.live) → Reaches cps p w Low (going_to (At term scope) s) at (2 + 0) top
-  arm_reaches links c scope env s at v block term top for one made a b d held leads waits low =
+  arm_reaches links c scope env s at v block term top for one made a held leads waits low =
       let blk = block_at cps p laid block (ArmOf c term) for in
       let end = going (Running blk.block.ops.items blk.block.last env) (counted 2 at) in
       let goes : step p at ≡ end = one ∙ ap (λ o. or_wrong o (counted 2 at) (λ b. begun b env (counted 2 at))) blk.is in
       reaches_step cps p w Low (going_to (At term scope) s) at end 2 0 top goes (omega arith) low (record {
         end = end;
         path = record { count = 0; goes = refl; moves = omega arith; low = λ i a b. absurd (omega (arith, a, b)) };
-        related = record { links = links; made = remade cps w links s (going_to (At term scope) s) v end made refl refl refl (sym a) (sym b) (sym d); doing = same_term c term scope blk.block.ops.items blk.block.last env blk.fits.lays held leads waits };
+        related = record { links = links; made = remade cps w links s (going_to (At term scope) s) v end made refl (sym a); doing = same_term c term scope blk.block.ops.items blk.block.last env blk.fits.lays held leads waits };
       })
 
   choose : (links : Links) (c : Context) (scope : Scope) (env : Env) (s : State) (at v : FrameState) (there_arm other_arm first_arm second_arm top : ℕ) (n m : Bool) → n ≡ m → IsFor w there_arm (ArmOf c first_arm) → IsFor w other_arm (ArmOf c second_arm) → step p at ≡ shown p (if m then other_arm else there_arm) env (counted 2 at)
-      → SameMade cps w links s v → v.store ≡ at.store → v.closures ≡ at.closures → v.globals ≡ at.globals → HoldAll w links scope env c.vars → Leads scope c.exits → Waits w links at.frames c.catches s.waiting at.live → Low at.store.heap (length at.live)
+      → SameMade cps w links s v → parts_at v ≡ parts_at at → HoldAll w links scope env c.vars → Leads scope c.exits → Waits w links at.frames c.catches s.waiting at.live → Low at.store.heap (length at.live)
       → Reaches cps p w Low (going_to (At (if n then second_arm else first_arm) scope) s) at (2 + 0) top
-  choose links c scope env s at v there_arm other_arm first_arm second_arm top true m e fy fn one made a b d held leads waits low = arm_reaches links c scope env s at v other_arm second_arm top fn (one ∙ ap (λ x. shown p (if x then other_arm else there_arm) env (counted 2 at)) (sym e)) made a b d held leads waits low
-  choose links c scope env s at v there_arm other_arm first_arm second_arm top false m e fy fn one made a b d held leads waits low = arm_reaches links c scope env s at v there_arm first_arm top fy (one ∙ ap (λ x. shown p (if x then other_arm else there_arm) env (counted 2 at)) (sym e)) made a b d held leads waits low
+  choose links c scope env s at v there_arm other_arm first_arm second_arm top true m e fy fn one made a held leads waits low = arm_reaches links c scope env s at v other_arm second_arm top fn (one ∙ ap (λ x. shown p (if x then other_arm else there_arm) env (counted 2 at)) (sym e)) made a held leads waits low
+  choose links c scope env s at v there_arm other_arm first_arm second_arm top false m e fy fn one made a held leads waits low = arm_reaches links c scope env s at v there_arm first_arm top fy (one ∙ ap (λ x. shown p (if x then other_arm else there_arm) env (counted 2 at)) (sym e)) made a held leads waits low
 
   pub if_reaches : (c : Context) (t : ℕ) (scope : Scope) (env : Env) (s : State) (u : FrameState) (test : Arg) (first_arm second_arm : ℕ) (ms : List FrameOp) (b : FrameArg) (there_arm other_arm : ℕ) → Prepares cps w c.vars (test ∷ []) ms (b ∷ []) → IsFor w there_arm (ArmOf c first_arm) → IsFor w other_arm (ArmOf c second_arm)
       → Staged cps p w Low c scope env s (performed P scope (Node.If test first_arm second_arm) s) u
@@ -73,4 +73,4 @@ module _ (cps : Cps) (p : Frames) (laid : IsLaidOut cps p) (Low : ℕ → ℕ �
       let path = subst (λ os. Path p Low (going (Running os last env) u) at (1 * (1 + cps.shared.size))) (append-nil ms) (x.path (λ h le. g.low h (length u.live) (omega (arith, le, heap)) (inl (omega arith)))) in
       subst (λ f. Reaches cps p w Low f (going (Running ms last env) u) (1 * (1 + cps.shared.size) + (2 + 0)) (w.rank t)) (sym there)
       (reaches_after cps p w Low final (going (Running ms last env) u) at (1 * (1 + cps.shared.size)) (2 + 0) (w.rank t) path
-      (choose x.links2 c scope x.env2 x.left at x.right there_arm other_arm first_arm second_arm (w.rank t) (is_nil f.v) (is_nil f.r) (nil_same x.links2 f.v f.r f.same) fy fn one x.made refl refl refl x.held g.leads waits low))
+      (choose x.links2 c scope x.env2 x.left at x.right there_arm other_arm first_arm second_arm (w.rank t) (is_nil f.v) (is_nil f.r) (nil_same x.links2 f.v f.r f.same) fy fn one x.made refl x.held g.leads waits low))

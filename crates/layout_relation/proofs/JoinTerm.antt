@@ -34,4 +34,4 @@ module _ (cps : Cps) (p : Frames) (laid : IsLaidOut cps p) (Low : ℕ → ℕ �
       let final = going_to (At rest inner) s in
       here_reaches cps p laid Low g.links final u (record c { exits = JoinExit m c.exits }) t rest inner ops last env laying
       (λ x y i. let h = g.held x y i in record { meant = h.meant; value = h.value; is = h.is; at = h.at; same = h.same })
-      (leads_join m scope c.exits g.leads) g.waits (remade cps w g.links s final u u g.made refl refl refl refl refl refl) refl lower
+      (leads_join m scope c.exits g.leads) g.waits (remade cps w g.links s final u u g.made refl refl) refl lower

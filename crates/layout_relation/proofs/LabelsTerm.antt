@@ -150,7 +150,7 @@ module _ (cps : Cps) (p : Frames) (laid : IsLaidOut cps p) (Low : ℕ → ℕ �
       let held = labels_hold new (paired (numbers xs) tos ++ c.vars) xs lams ms tos scope env c.vars i j (youngest_birth u) labels (hold_grows g.links new more w scope env c.vars g.held) (fresh_apart c xs fresh) (subst (λ ys. HoldersApart ys c.vars) (sym (made_is (paired (numbers xs) tos ++ c.vars) xs lams ms tos labels)) (unused_apart c.vars tos unused)) distinct (plain_names c xs fresh) ties in
       let env2 = addressed (makings ms) env u in
       let gr = group cps p w laid.small Low new inner (paired (numbers xs) tos ++ c.vars) lams ms ops tos last env u (labels_make cps w (paired (numbers xs) tos ++ c.vars) xs lams ms tos labels) apart held in
-      let closes : Closes s s2 cs words = record { store = refl; closures = refl; globals = refl; waiting = refl; moves = refl } in
+      let closes : Closes s s2 cs words = record { parts = refl; waiting = refl; moves = refl } in
       let made2 = made_more cps w g.links s s2 u gr.state cs gr.records words g.made closes gr.builds gr.words gr.same in
       let at = going (Running ops last env2) gr.state in
       let heap = ap (λ z. z.store.heap) there in
@@ -158,7 +158,7 @@ module _ (cps : Cps) (p : Frames) (laid : IsLaidOut cps p) (Low : ℕ → ℕ �
       let path = gr.path (λ h le. g.low h (length u.live) (omega (arith, le, heap, low0)) (inl (omega arith))) in
       let waits = subst (λ fs. Waits w new fs c.catches s.waiting gr.state.live) (sym gr.builds.frames) (subst (λ l. Waits w new u.frames c.catches s.waiting l) (sym gr.builds.live) (waits_grow g.links new more w u.frames u.frames (λ i f h. h) c.catches s.waiting u.live g.waits)) in
       let lows : LowBelow cps p laid Low gr.state = λ n le. g.low gr.state.store.heap n (let e = made2.store.heap in omega (arith, e, heap)) (inl (let e = ap length gr.builds.live in omega (arith, le, e))) in
-      let arrives = goes_arrives cps p laid Low new final gr.state (labelled xs tos c) body inner ops last env2 onward held (names_lead c.exits xs vs scope c refl fresh g.leads) waits (remade cps w new s2 final gr.state gr.state made2 refl refl refl refl refl refl) refl lows in
+      let arrives = goes_arrives cps p laid Low new final gr.state (labelled xs tos c) body inner ops last env2 onward held (names_lead c.exits xs vs scope c refl fresh g.leads) waits (remade cps w new s2 final gr.state gr.state made2 refl refl) refl lows in
       let names = names_count (paired (numbers xs) tos ++ c.vars) xs lams ms tos labels in
       let path2 = more_path p Low (going (Running (ms ++ ops) last env) u) at (length lams * (1 + cps.shared.size)) (length xs * (1 + cps.shared.size)) (let e = ap (λ n. n * (1 + cps.shared.size)) names in omega (arith, e)) path in
       subst (λ f. Reaches cps p w Low f (going (Running (ms ++ ops) last env) u) (length xs * (1 + cps.shared.size) + (cps.shared.size + 4)) (w.rank t)) (sym there) (record {

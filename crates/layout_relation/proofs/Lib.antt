@@ -19,6 +19,10 @@ pub mod JoinTerm
 pub mod CallTerm
 pub mod PrimTerm
 pub mod LabelsTerm
+pub mod Bringing
+pub mod GlobalTerm
+pub mod CellTerm
+pub mod ObjectTerm
 pub mod SameMoves
 pub mod Matching
 pub mod Starting

@@ -15,9 +15,9 @@ use Rattle.frame_ir.specs.States.{State as FrameState}
 use Rattle.frame_ir.specs.Groups.{made}
 use Rattle.layout_relation.specs.Links.{IsIn, first, later, Zipped, SameOption, Ties, IsTied, Links, Extends, IsOneToOne, SameVal, SameStore}
 use Rattle.layout_relation.specs.Laid.{Sketch, MakesClosure, Labels, labels_none, labels_one}
-use Rattle.layout_relation.specs.Related.{SameClosure, ClosuresAt, SameMade}
+use Rattle.layout_relation.specs.Related.{SameClosure, ClosuresAt, Parts, parts_of, FrameParts, parts_at, SameParts, SameMade}
 use Rattle.layout_relation.proofs.Lists.{get_front, get_behind, in_right, in_cases, in_none, in_either, some_at, zipped_at}
-use Rattle.layout_relation.proofs.Growing.{store_grows, globals_grow, closure_grows}
+use Rattle.layout_relation.proofs.Growing.{store_grows, globals_grow, cells_grow, objects_grow, closure_grows}
 
 -- ---- ties of new closures
 
@@ -29,7 +29,7 @@ abbrev pub tied : {X : Type 0} → Links → ℕ → ℕ → List X → Links
 tied links i j xs = record links { closures = ties i j xs ++ links.closures }
 
 pub tied_extends : {X : Type 0} (links : Links) (i j : ℕ) (xs : List X) → Extends links (tied links i j xs)
-tied_extends links i j xs = record { closures = λ a b h. in_right (a, b) (ties i j xs) links.closures h; objects = λ a b h. h; escapes = λ a b h. h; cells = λ a b h. h }
+tied_extends links i j xs = record { closures = λ a b h. in_right (a, b) (ties i j xs) links.closures h; escapes = λ a b h. h; objects = omega arith; cells = omega arith }
 
 -- a new tie: the same distance from both first numbers
 pub record NewTie (n i j a b : ℕ) : Type 0 where
@@ -87,9 +87,7 @@ still_one xs old i j below one a b c d h k = ⊎_elim
 
 -- closures more, with so many words of heap
 pub record Closes (s t : State) (cs : List Closure) (words : ℕ) : Type 0 where
-  pub store : t.store ≡ record s.store { heap = s.store.heap + words }
-  pub closures : t.closures ≡ s.closures ++ cs
-  pub globals : t.globals ≡ s.globals
+  pub parts : parts_of t ≡ record (parts_of s) { store = record s.store { heap = s.store.heap + words }; closures = s.closures ++ cs }
   pub waiting : t.waiting ≡ s.waiting
   pub moves : t.moves ≡ s.moves
 
@@ -102,9 +100,7 @@ moves_in [] = 0
 moves_in (r ∷ rs) = 1 + length r.captured + moves_in rs
 
 pub record Builds (s t : FrameState) (rs : List FrameClosure) : Type 0 where
-  pub store : t.store ≡ record s.store { heap = s.store.heap + words_in rs }
-  pub closures : t.closures ≡ s.closures ++ rs
-  pub globals : t.globals ≡ s.globals
+  pub parts : parts_at t ≡ record (parts_at s) { store = record s.store { heap = s.store.heap + words_in rs }; closures = s.closures ++ rs }
   pub frames : t.frames ≡ s.frames
   pub live : t.live ≡ s.live
   pub moves : t.moves ≡ s.moves + moves_in rs
@@ -120,15 +116,22 @@ made_more cps w links s s2 t t2 cs rs words h c b few same =
     (λ n. new_there (new_tie cs (length s.closures) (length t.closures) (i, j) n))
     (λ o. let at = h.closures i j o in record { left = at.left; right = at.right; is = get_front s.closures cs i at.left at.is; at = get_front t.closures rs j at.right at.at; same = closure_grows links new more w at.left at.right at.same })
     (in_either (i, j) (ties (length s.closures) (length t.closures) cs) links.closures k) in
-    record {
-      one = record { closures = still_one cs links.closures (length s.closures) (length t.closures) below h.one.closures; objects = h.one.objects; escapes = h.one.escapes };
-      store = subst (λ x. SameStore new x t2.store) (sym c.store) (subst (λ y. SameStore new (record s.store { heap = s.store.heap + words }) y) (sym b.store) (wider (store_grows links new more s.store t.store h.store)));
-      closures = subst (λ xs. (i j : ℕ) → IsTied new.closures i j → ClosuresAt w new xs t2.closures i j) (sym c.closures) (subst (λ ys. (i j : ℕ) → IsTied new.closures i j → ClosuresAt w new (s.closures ++ cs) ys i j) (sym b.closures) there);
-      globals = subst (λ xs. AllZip (SameOption (SameVal new)) xs t2.globals) (sym c.globals) (subst (λ ys. AllZip (SameOption (SameVal new)) s.globals ys) (sym b.globals) (globals_grow links new more s.globals t.globals h.globals));
-      objects = h.objects;
+    let x : Parts = record (parts_of s) { store = record s.store { heap = s.store.heap + words }; closures = s.closures ++ cs } in
+    let y : FrameParts = record (parts_at t) { store = record t.store { heap = t.store.heap + words_in rs }; closures = t.closures ++ rs } in
+    let all : SameParts cps w new x y = record {
+      one = record { closures = still_one cs links.closures (length s.closures) (length t.closures) below h.one.closures; escapes = h.one.escapes };
+      store = wider (store_grows links new more s.store t.store h.store);
+      closures = there;
+      globals = globals_grow links new more s.globals t.globals h.globals;
+      count = h.count;
+      procedures = λ g code e. let k = h.procedures g code e in (k.0, more.closures code code k.1);
+      cells = cells_grow links new more s.locations t.cells h.cells;
+      objects = objects_grow links new more w s.objects t.objects h.objects;
+      located = h.located;
+      objected = h.objected;
       escapes = h.escapes;
-      procedures = λ g code e. let k = h.procedures g code e in (subst (λ xs. slice_get xs g ≡ Some (Some (ClosureV code))) (sym c.globals) k.0, more.closures code code k.1);
-    }
+    } in
+    subst (λ z. SameParts cps w new z (parts_at t2)) (sym c.parts) (subst (λ z. SameParts cps w new x z) (sym b.parts) all)
   where
     new_there : {i j : ℕ} → NewTie (length cs) (length s.closures) (length t.closures) i j → ClosuresAt w (tied links (length s.closures) (length t.closures) cs) (s.closures ++ cs) (t.closures ++ rs) i j
     new_there {i} {j} n =

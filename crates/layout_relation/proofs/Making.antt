@@ -1,5 +1,5 @@
 -- The closures that operations make, as a step of the frames.
-use Rattle.std.proofs.Common.{◌≡◌, ℕ, suc, ◌+◌, ◌*◌, ◌%◌, ◌≤◌, ◌<◌, nat_lt, Bool, true, false, ◌&&◌, if◌then◌else◌, List, [], ◌∷◌, length, Some, refl, sym, ap, ◌∙◌, arith, append_assoc, append-nil}
+use Rattle.std.proofs.Common.{◌≡◌, ℕ, suc, ◌+◌, ◌*◌, ◌%◌, ◌≤◌, ◌<◌, nat_lt, Bool, true, false, ◌&&◌, if◌then◌else◌, List, [], ◌∷◌, ◌++◌, length, Some, refl, sym, ap, ◌∙◌, arith, append_assoc, append-nil}
 use Rattle.std.specs.Prelude.{option_and_then, sum_by}
 use Rattle.std.specs.Option.{option_map}
 use Rattle.std.specs.List.{list_all}
@@ -22,7 +22,7 @@ use Rattle.frame_ir.specs.Arguments.{kept_values}
 use Rattle.frame_ir.specs.Groups.{makings, with_addresses, placed, made}
 use Rattle.layout_relation.specs.Links.{Zipped, zip_none, zip_one, Links, SameMeant, value, cell}
 use Rattle.layout_relation.specs.Laid.{Sketch, AreHeld, MakesClosure, made_by}
-use Rattle.layout_relation.specs.Related.{HoldAll, IsCaptured, AreCaptured, SameClosure}
+use Rattle.layout_relation.specs.Related.{parts_at, HoldAll, IsCaptured, AreCaptured, SameClosure}
 use Rattle.layout_relation.proofs.Lists.{zipped_length, is_in_head}
 use Rattle.layout_relation.proofs.Scopes.{other_value, eqb_same}
 use Rattle.layout_relation.proofs.Made.{words_in, moves_in, Builds, Makes, makes_none, makes_one}
@@ -38,7 +38,7 @@ pub record Kept (w : Sketch) (links : Links) (scope : Scope) (env : Env) (xs : L
 
 meant_lasts : (links : Links) (celled : Bool) (m : Meant) (v : Value) → SameMeant links celled m v → is_lasting v ≡ true
 meant_lasts links celled m v (value a b h) = refl
-meant_lasts links celled m v (cell i j h) = refl
+meant_lasts links celled m v (cell i lt) = refl
 
 kept_one : (w : Sketch) (links : Links) (scope : Scope) (env : Env) (x : ℕ) (y : Var) (xs : List ℕ) (ys : List Var) (v : Value) → value_at env y.0 ≡ Some v → IsCaptured w links scope x v → Kept w links scope env xs ys → Kept w links scope env (x ∷ xs) (y ∷ ys)
 kept_one w links scope env x y xs ys v e h k = record {
@@ -63,9 +63,8 @@ built (r ∷ rs) t = built rs (taking (record_words (length r.captured)) (with_c
 
 built_front : (r : FrameClosure) (rs : List FrameClosure) (t u : State) → Builds (taking (record_words (length r.captured)) (with_closure (counted (1 + length r.captured) t) r)) u rs → Builds t u (r ∷ rs)
 built_front r rs t u b = record {
-  store = b.store ∙ ap (λ h. record t.store { heap = h }) (let e : t.store.heap + record_words (length r.captured) + words_in rs ≡ t.store.heap + (record_words (length r.captured) + words_in rs) = omega arith in e);
-  closures = b.closures ∙ append_assoc t.closures (r ∷ []) rs;
-  globals = b.globals;
+  parts = b.parts ∙ ap (λ h. record (parts_at t) { store = record t.store { heap = h }; closures = t.closures ++ r ∷ [] ++ rs }) (let e : t.store.heap + record_words (length r.captured) + words_in rs ≡ t.store.heap + (record_words (length r.captured) + words_in rs) = omega arith in e)
+      ∙ ap (λ cs. record (parts_at t) { store = record t.store { heap = t.store.heap + (record_words (length r.captured) + words_in rs) }; closures = cs }) (append_assoc t.closures (r ∷ []) rs);
   frames = b.frames;
   live = b.live;
   moves = let m = b.moves in omega (arith, m);
@@ -73,9 +72,8 @@ built_front r rs t u b = record {
 
 built_none : (t : State) → Builds t t []
 built_none t = record {
-  store = ap (λ h. record t.store { heap = h }) (let e : t.store.heap ≡ t.store.heap + 0 = omega arith in e);
-  closures = sym (append-nil t.closures);
-  globals = refl;
+  parts = ap (λ h. record (parts_at t) { store = record t.store { heap = h } }) (let e : t.store.heap ≡ t.store.heap + 0 = omega arith in e)
+      ∙ ap (λ cs. record (parts_at t) { store = record t.store { heap = t.store.heap + 0 }; closures = cs }) (sym (append-nil t.closures));
   frames = refl;
   live = refl;
   moves = let e : t.moves ≡ t.moves + 0 = omega arith in e;
@@ -105,7 +103,7 @@ module _ (cps : Cps) (w : Sketch) (small : (l : ℕ) → length (w.needs l) ≤ 
   abbrev P : Program
   P = marked cps all_escape
 
-  even_most : (n size : ℕ) → n ≤ size → record_words n ≤ 4 + size
+  pub even_most : (n size : ℕ) → n ≤ size → record_words n ≤ 4 + size
   even_most n size le = let m : (3 + n) % 2 < 2 = mod-lt (3 + n) (omega arith) in omega (arith, m, le)
 
   lambda_words : (l : ℕ) → nat_lt l (first_lams cps) ≡ false → lam_words P l ≡ 4 + cps.shared.size

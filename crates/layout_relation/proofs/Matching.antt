@@ -16,14 +16,14 @@ use Rattle.frame_ir.specs.declared.args.Arg.{Arg as FrameArg}
 use Rattle.frame_ir.specs.declared.forms.FrameOp.{FrameOp}
 use Rattle.frame_ir.specs.declared.forms.FrameEnd.{FrameEnd}
 use Rattle.frame_ir.specs.declared.forms.Frames.{Frames}
-use Rattle.frame_ir.specs.Values.{Lasting, Frame, Env}
+use Rattle.frame_ir.specs.Values.{Lasting, Frame, Object as FrameObject, Env}
 use Rattle.frame_ir.specs.States.{Doing, Running, end_of, State as FrameState, going, counted, seen}
 use Rattle.frame_ir.specs.Calls.{called, looked, entered}
 use Rattle.frame_ir.specs.Running.{step, advance}
 use Rattle.layout_relation.specs.Links.{Links}
 use Rattle.layout_relation.specs.Contexts.{Context, Resumes}
-use Rattle.layout_relation.specs.Laid.{Sketch, Prepares, prepares_none, prepares_same, prepares_closure, Lays, lays, LaysTerm, lays_tail_call, lays_call, lays_prim, lays_if, lays_labels, lays_join, lays_give, lays_halt, IsLaidOut}
-use Rattle.layout_relation.specs.Related.{Leads, HoldAll, Waits, SameMade, SameDoing, same_term, same_call, same_look, same_entry, same_end, Related}
+use Rattle.layout_relation.specs.Laid.{Sketch, Prepares, prepares_none, prepares_same, prepares_closure, Lays, lays, LaysTerm, lays_tail_call, lays_call, lays_prim, lays_if, lays_labels, lays_join, lays_give, lays_global_get, lays_global_init, lays_global_set, lays_cell, lays_cell_get, lays_cell_set, lays_object, lays_halt, IsLaidOut}
+use Rattle.layout_relation.specs.Related.{Leads, HoldAll, Waits, SameMade, SameDoing, same_term, same_call, same_look, same_method, same_entry, same_end, Related}
 use Rattle.layout_relation.specs.Laws.{moves_for}
 use Rattle.layout_relation.proofs.Lists.{zipped_length}
 use Rattle.layout_relation.proofs.Preparing.{remade}
@@ -31,9 +31,12 @@ use Rattle.layout_relation.proofs.Arriving.{block_at}
 use Rattle.layout_relation.proofs.Handing.{LowBelow, rank_of, Reaches, reaches_step}
 use Rattle.layout_relation.proofs.Staged.{waiting_count, waits_count, Staged}
 use Rattle.layout_relation.proofs.Calling.{entry_moves}
-use Rattle.layout_relation.proofs.Stepping.{Comes, called_comes, looked_comes, entering_comes}
-use Rattle.layout_relation.proofs.SameMoves.{call_moves, prim_moves, if_moves, labels_moves, give_moves_same, halt_moves, called_moves, looked_moves, entered_moves}
+use Rattle.layout_relation.proofs.Stepping.{Comes, called_comes, looked_comes, method_comes, entering_comes}
+use Rattle.layout_relation.proofs.SameMoves.{call_moves, prim_moves, if_moves, labels_moves, give_moves_same, global_get_moves, global_init_moves, global_set_moves, cell_moves, cell_get_moves, cell_set_moves, object_moves, halt_moves, called_moves, looked_moves, entered_moves}
 use Rattle.layout_relation.proofs.HaltTerm.{halt_reaches}
+use Rattle.layout_relation.proofs.CellTerm.{cell_reaches, cell_get_reaches, cell_set_reaches}
+use Rattle.layout_relation.proofs.ObjectTerm.{object_reaches}
+use Rattle.layout_relation.proofs.GlobalTerm.{get_reaches, init_reaches, set_reaches}
 use Rattle.layout_relation.proofs.GiveTerm.{give_reaches}
 use Rattle.layout_relation.proofs.IfTerm.{if_reaches}
 use Rattle.layout_relation.proofs.JoinTerm.{join_reaches}
@@ -117,6 +120,20 @@ module _ (cps : Cps) (p : Frames) (laid : IsLaidOut cps p) where
       (_, join_reaches cps p laid LowOf c2 t2 scope env s u k param body rest block needs ops2 last2 lower laying st, omega arith, refl)
   does LowOf c t scope term ops last env s u (lays_give c2 t2 k value ms x ops2 last2 prep apart gives) st =
       (_, give_reaches cps p laid LowOf c2 t2 scope env s u k value ms x ops2 last2 prep apart gives st, omega arith, give_moves_same P s.moves scope k value s refl)
+  does LowOf c t scope term ops last env s u (lays_global_get c2 t2 g k to ops2 last2 lt unused gives) st =
+      (_, get_reaches cps p laid LowOf c2 t2 g scope env s u k to ops2 last2 lt unused gives st, omega arith, global_get_moves P s.moves scope g k s refl)
+  does LowOf c t scope term ops last env s u (lays_global_init c2 t2 g value k ms x ops2 last2 lt none prep gives) st =
+      (_, init_reaches cps p laid LowOf c2 t2 g scope env s u value k ms x ops2 last2 lt none prep gives st, omega arith, global_init_moves P s.moves scope g value k s refl)
+  does LowOf c t scope term ops last env s u (lays_global_set c2 t2 g value k ms x ops2 last2 lt none prep gives) st =
+      (_, set_reaches cps p laid LowOf c2 t2 g scope env s u value k ms x ops2 last2 lt none prep gives st, omega arith, global_set_moves P s.moves scope g value k s refl)
+  does LowOf c t scope term ops last env s u (lays_cell c2 t2 x value rest ms y to ops2 last2 prep fresh celled unused onward) st =
+      (_, cell_reaches cps p laid LowOf c2 t2 scope env s u x value rest ms y to ops2 last2 prep fresh celled unused onward st, omega arith, cell_moves P s.moves scope x value rest s refl)
+  does LowOf c t scope term ops last env s u (lays_cell_get c2 t2 x y k to ops2 last2 there celled unused gives) st =
+      (_, cell_get_reaches cps p laid LowOf c2 t2 scope env s u x y k to ops2 last2 there celled unused gives st, omega arith, cell_get_moves P s.moves scope x k s refl)
+  does LowOf c t scope term ops last env s u (lays_cell_set c2 t2 x y value k ms z ops2 last2 prep there celled gives) st =
+      (_, cell_set_reaches cps p laid LowOf c2 t2 scope env s u x y value k ms z ops2 last2 prep there celled gives st, omega arith, cell_set_moves P s.moves scope x value k s refl)
+  does LowOf c t scope term ops last env s u (lays_object c2 t2 proc names methods k ms x template shape needs kept to ops2 last2 prep count is_shape are_methods held small unused gives) st =
+      (_, object_reaches cps p laid LowOf c2 t2 scope env s u proc names methods k ms x template shape needs kept to ops2 last2 prep count is_shape are_methods held small unused gives st, (let h = zipped_length _ _ _ held in omega (arith, h, small)), object_moves P s.moves scope proc names methods k s refl)
   does LowOf c t scope term ops last env s u (lays_halt c2 t2 value ms x prep) st =
       (_, halt_reaches cps p laid LowOf c2 t2 scope env s u value ms x prep st, omega arith, halt_moves P s.moves scope value s refl)
 
@@ -135,7 +152,7 @@ module _ (cps : Cps) (p : Frames) (laid : IsLaidOut cps p) where
       let wait = ap (λ z. waiting_count z.waiting) stepped in
       let staged : Stage c2 scope term env s1 t (Low s) = record {
         links = links;
-        made = remade cps w links s s1 t t made refl refl refl refl refl refl;
+        made = remade cps w links s s1 t t made refl refl;
         held = held;
         leads = leads;
         waits = waits;
@@ -164,7 +181,7 @@ module _ (cps : Cps) (p : Frames) (laid : IsLaidOut cps p) where
       let low = made.store.heap in
       (omega (arith, up, low), inl (omega (arith, le, count)))
 
-  matched_from : (s : State) (t : FrameState) (links : Links) (control : Control) (doing : Doing) → SameDoing cps w links t.frames s.waiting t.live control doing → s.control ≡ control → t.doing ≡ doing → SameMade cps w links s t → (seen_of s).end ≡ None → Matched a b R measure potential factor s t
+  matched_from : (s : State) (t : FrameState) (links : Links) (control : Control) (doing : Doing) → SameDoing cps w links t.frames t.objects s.waiting t.live control doing → s.control ≡ control → t.doing ≡ doing → SameMade cps w links s t → (seen_of s).end ≡ None → Matched a b R measure potential factor s t
   matched_from s t links control doing (same_term c at scope ops last env laying held leads waits) ec ed made on = term_matched s t links c at scope ops last env laying ec ed made held leads waits
   matched_from s t links control doing (same_call f g xs ys same sames waits) ec ed made on =
       let s1 = counting 1 s in
@@ -173,18 +190,23 @@ module _ (cps : Cps) (p : Frames) (laid : IsLaidOut cps p) where
       let heap = ap (λ z. z.store.heap) left in
       let count = waits_count w links t.frames [] s.waiting t.live waits in
       comes_matched s t (called p g ys (counted 1 t)) (called_to P f xs s1) left right
-      (called_comes cps p laid (Low s) links s1 (counted 1 t) f g xs ys same sames waits (remade cps w links s s1 t (counted 1 t) made refl refl refl refl refl refl) (low_now s t links made waits)
+      (called_comes cps p laid (Low s) links s1 (counted 1 t) f g xs ys same sames waits (remade cps w links s s1 t (counted 1 t) made refl refl) (low_now s t links made waits)
       (λ st n le below. (omega (arith, le, heap), inl (omega (arith, below, count)))))
       (called_moves P s1.moves f xs s1 refl)
-  matched_from s t links control doing (same_look o xs ys sames waits) ec ed made on =
+  matched_from s t links control doing (same_look o hs ms captured kept xs ys handlers handled sames waits) ec ed made on =
       let s1 = counting 1 s in
-      comes_matched s t (looked p o [] ys (counted 1 t)) (looked_to P o [] xs s1) (ap (λ k. advanced P k s) ec) (ap (λ d. advance p d t) ed)
-      (looked_comes cps p laid (Low s) links s1 (counted 1 t) o xs ys sames waits (remade cps w links s s1 t (counted 1 t) made refl refl refl refl refl refl) (low_now s t links made waits))
-      (looked_moves P s1.moves o xs s1 refl)
+      comes_matched s t (looked p o ms ys (counted 1 t)) (looked_to P o hs xs s1) (ap (λ k. advanced P k s) ec) (ap (λ d. advance p d t) ed)
+      (looked_comes cps p laid (Low s) links s1 (counted 1 t) o hs ms captured kept xs ys handlers handled sames waits made (low_now s t links made waits))
+      (looked_moves P s1.moves o hs xs s1 refl)
+  matched_from s t links control doing (same_method c code captured kept xs ys for holds front sames waits) ec ed made on =
+      let s1 = counting 1 s in
+      comes_matched s t (entered p code (map Lasting ys) (counted 1 t)) (entered_to P c xs s1) (ap (λ k. advanced P k s) ec) (ap (λ d. advance p d t) ed)
+      (method_comes cps p laid (Low s) links s1 (counted 1 t) c code captured kept xs ys for holds front sames waits made (low_now s t links made waits))
+      (entered_moves P s1.moves c xs s1 refl)
   matched_from s t links control doing (same_entry c code self xs ys for none sames waits) ec ed made on =
       let s1 = counting 1 s in
       comes_matched s t (entered p code (Lasting self ∷ map Lasting ys) (counted 1 t)) (entered_to P c xs s1) (ap (λ k. advanced P k s) ec) (ap (λ d. advance p d t) ed)
-      (entering_comes cps p laid (Low s) links s1 (counted 1 t) c code self xs ys for none sames waits (remade cps w links s s1 t (counted 1 t) made refl refl refl refl refl refl) (low_now s t links made waits))
+      (entering_comes cps p laid (Low s) links s1 (counted 1 t) c code self xs ys for none sames waits (remade cps w links s s1 t (counted 1 t) made refl refl) (low_now s t links made waits))
       (entered_moves P s1.moves c xs s1 refl)
   matched_from s t links control doing (same_end e d ended) ec ed made on = absurd (never e (sym (ap end_of_control ec) ∙ on))
     where
@@ -194,15 +216,16 @@ module _ (cps : Cps) (p : Frames) (laid : IsLaidOut cps p) where
   pub matched : (s : State) (t : FrameState) → R s t → (seen_of s).end ≡ None → Matched a b R measure potential factor s t
   matched s t r on = matched_from s t r.links s.control t.doing r.doing refl refl r.made on
 
-  same_end_of : (links : Links) (frames : List Frame) (waiting : List Waiting) (live : List ℕ) (control : Control) (doing : Doing) → SameDoing cps w links frames waiting live control doing → end_of doing ≡ end_of_control control
-  same_end_of links frames waiting live control doing (same_term c at scope ops last env laying held leads waits) = refl
-  same_end_of links frames waiting live control doing (same_call f g xs ys same sames waits) = refl
-  same_end_of links frames waiting live control doing (same_look o xs ys sames waits) = refl
-  same_end_of links frames waiting live control doing (same_entry c code self xs ys for none sames waits) = refl
-  same_end_of links frames waiting live control doing (same_end e d ended) = ended
+  same_end_of : (links : Links) (frames : List Frame) (objects : List FrameObject) (waiting : List Waiting) (live : List ℕ) (control : Control) (doing : Doing) → SameDoing cps w links frames objects waiting live control doing → end_of doing ≡ end_of_control control
+  same_end_of links frames objects waiting live control doing (same_term c at scope ops last env laying held leads waits) = refl
+  same_end_of links frames objects waiting live control doing (same_call f g xs ys same sames waits) = refl
+  same_end_of links frames objects waiting live control doing (same_look o hs ms captured kept xs ys handlers handled sames waits) = refl
+  same_end_of links frames objects waiting live control doing (same_method c code captured kept xs ys for holds front sames waits) = refl
+  same_end_of links frames objects waiting live control doing (same_entry c code self xs ys for none sames waits) = refl
+  same_end_of links frames objects waiting live control doing (same_end e d ended) = ended
 
   pub alike : (s : State) (t : FrameState) → R s t → Alike (seen_of s) (seen t)
-  alike s t r = record { end = same_end_of r.links t.frames s.waiting t.live s.control t.doing r.doing; output = sym r.made.store.output }
+  alike s t r = record { end = same_end_of r.links t.frames t.objects s.waiting t.live s.control t.doing r.doing; output = sym r.made.store.output }
 
   pub simulates : Simulates a b R measure potential factor
   simulates = record { machine = steps_only_add P; alike = alike; matched = matched }

@@ -23,7 +23,7 @@ use Rattle.frame_ir.specs.Groups.{Making as Planned, makings, behind, youngest_b
 use Rattle.frame_ir.specs.Running.{step}
 use Rattle.layout_relation.specs.Links.{Zipped, zip_none, IsTied, Links, Extends, SameVal, SameOption, SameStore}
 use Rattle.layout_relation.specs.Laid.{Sketch, StartsApart, Prepares}
-use Rattle.layout_relation.specs.Related.{HoldAll, SameClosure, ClosuresAt, SameMade}
+use Rattle.layout_relation.specs.Related.{HoldAll, SameClosure, parts_of, parts_at, SameParts, SameMade}
 use Rattle.layout_relation.proofs.Lists.{zipped_more, in_left}
 use Rattle.layout_relation.proofs.Growing.{hold_grows, closure_grows}
 use Rattle.layout_relation.proofs.Paths.{Path, stays, steps}
@@ -53,17 +53,8 @@ behind_join cps w vars lams ms ops tos (makes_one l to code kept ls ns ts h rest
 
 -- ---- what was made, seen of other states
 
-pub remade : (cps : Cps) (w : Sketch) (links : Links) (s s2 : State) (t t2 : FrameState) → SameMade cps w links s t → s2.store ≡ s.store → s2.closures ≡ s.closures → s2.globals ≡ s.globals → t2.store ≡ t.store → t2.closures ≡ t.closures → t2.globals ≡ t.globals
-    → SameMade cps w links s2 t2
-remade cps w links s s2 t t2 h a b c d e f = record {
-  one = h.one;
-  store = subst (λ x. SameStore links x t2.store) (sym a) (subst (λ y. SameStore links s.store y) (sym d) h.store);
-  closures = subst (λ xs. (i j : ℕ) → IsTied links.closures i j → ClosuresAt w links xs t2.closures i j) (sym b) (subst (λ ys. (i j : ℕ) → IsTied links.closures i j → ClosuresAt w links s.closures ys i j) (sym e) h.closures);
-  globals = subst (λ xs. AllZip (SameOption (SameVal links)) xs t2.globals) (sym c) (subst (λ ys. AllZip (SameOption (SameVal links)) s.globals ys) (sym f) h.globals);
-  objects = h.objects;
-  escapes = h.escapes;
-  procedures = λ g code k. let x = h.procedures g code k in (subst (λ xs. slice_get xs g ≡ Some (Some (ClosureV code))) (sym c) x.0, x.1);
-}
+pub remade : (cps : Cps) (w : Sketch) (links : Links) (s s2 : State) (t t2 : FrameState) → SameMade cps w links s t → parts_of s2 ≡ parts_of s → parts_at t2 ≡ parts_at t → SameMade cps w links s2 t2
+remade cps w links s s2 t t2 h a b = subst (λ x. SameParts cps w links x (parts_at t2)) (sym a) (subst (λ y. SameParts cps w links (parts_of s) y) (sym b) h)
 
 module _ (cps : Cps) (p : Frames) (w : Sketch) (small : (l : ℕ) → length (w.needs l) ≤ cps.shared.size) (Low : ℕ → ℕ → Type 0) where
   -- so many words of heap more are low
@@ -81,7 +72,7 @@ module _ (cps : Cps) (p : Frames) (w : Sketch) (small : (l : ℕ) → length (w.
 
   low_built : (t u : FrameState) (records : List FrameClosure) (words : ℕ) → Builds t u records → words_in records ≤ words → Lowered t words → Low u.store.heap (length u.live)
   low_built t u records words b few low =
-      subst (λ n. Low u.store.heap n) (sym (ap length b.live)) (low u.store.heap (let e = ap (λ x. x.heap) b.store in omega (arith, e, few)))
+      subst (λ n. Low u.store.heap n) (sym (ap length b.live)) (low u.store.heap (let e = ap (λ x. x.store.heap) b.parts in omega (arith, e, few)))
 
   pub group : (links : Links) (scope : Scope) (vars : List (ℕ × ℕ)) (lams : List ℕ) (ms ops : List FrameOp) (tos : List Var) (last : FrameEnd) (env : Env) (t : FrameState) → Makes cps w vars lams ms tos → StartsApart ops
       → HoldAll w links scope (addressed (makings ms) env t) vars → Grouped links scope lams ms ops last env t
@@ -90,7 +81,7 @@ module _ (cps : Cps) (p : Frames) (w : Sketch) (small : (l : ℕ) → length (w.
     same = zip_none;
     words = omega arith;
     state = t;
-    builds = let b = built_is [] t in record { store = b.store; closures = b.closures; globals = b.globals; frames = b.frames; live = b.live; moves = b.moves };
+    builds = let b = built_is [] t in record { parts = b.parts; frames = b.frames; live = b.live; moves = b.moves };
     path = λ low. subst (λ n. Path p Low (going (Running ops last env) t) (going (Running ops last env) t) n) (let e : 0 ≡ 0 * (1 + cps.shared.size) = omega arith in e) (stays p Low (going (Running ops last env) t));
   }
   group links scope vars lams ms ops tos last env t (makes_one l to code kept ls ns ts i rest) apart h =
@@ -100,7 +91,7 @@ module _ (cps : Cps) (p : Frames) (w : Sketch) (small : (l : ℕ) → length (w.
       let u = going (Running (made_ops ++ ops) last env) t in
       let k : List Planned → List FrameOp → FrameState = λ xs bs. made xs (addressed xs env u) u (λ v. going (Running bs last (addressed xs env u)) v) in
       let b0 = built_is m.records u in
-      let b : Builds t (built m.records u) m.records = record { store = b0.store; closures = b0.closures; globals = b0.globals; frames = b0.frames; live = b0.live; moves = b0.moves } in
+      let b : Builds t (built m.records u) m.records = record { parts = b0.parts; frames = b0.frames; live = b0.live; moves = b0.moves } in
       let end = going (Running ops last (addressed (makings made_ops) env t)) (built m.records u) in
       let one : step p u ≡ end = ap (λ xs. k xs (behind (made_ops ++ ops))) (makings_join cps w vars (l ∷ ls) made_ops ops (to ∷ ts) all apart) ∙ ap (λ bs. k (makings made_ops) bs) (behind_join cps w vars (l ∷ ls) made_ops ops (to ∷ ts) all apart)
       ∙ m.makes u (λ v. going (Running ops last (addressed (makings made_ops) env t)) v) in
@@ -150,7 +141,7 @@ module _ (cps : Cps) (p : Frames) (w : Sketch) (small : (l : ℕ) → length (w.
       let words = sum_by (lam_words (marked cps all_escape)) a.lams in
       let same = zipped_more (SameClosure w links) (SameClosure w new) (closure_grows links new more w) cs g.records g.same in
       let all = made_more cps w links s a.state t g.state cs g.records words made a.closes g.builds g.words same in
-      let heap : a.state.store.heap ≡ s.store.heap + words = ap (λ x. x.heap) a.closes.store in
+      let heap : a.state.store.heap ≡ s.store.heap + words = ap (λ x. x.store.heap) a.closes.parts in
       record {
         links2 = new;
         extends = more;

@@ -71,14 +71,14 @@ module _ (cps : Cps) (p : Frames) (laid : IsLaidOut cps p) (Low : ℕ → ℕ �
       let z = going (Running ops last env2) (counted n u) in
       let low : LowBelow cps p laid Low (counted n u) = λ m le. lows u.store.heap m (let e = made.store.heap in omega (arith, e, up)) le in
       let reads : lasting_value p.shared env2 (FrameArgument.Var to) ≡ Some y = ap (λ b. option_and_then lasting_of (if b then Some (Lasting y) else value_at env to.0)) (eqb_same to.0) in
-      let arrives = gives_arrives cps p laid Low links s (counted n u) c t k scope (FrameArgument.Var to) x y ops last env2 onward reads h (hold_set w links scope env c.vars to.0 (Lasting y) unused held) leads waits (remade cps w links s s u (counted n u) made refl refl refl refl refl refl) low in
+      let arrives = gives_arrives cps p laid Low links s (counted n u) c t k scope (FrameArgument.Var to) x y ops last env2 onward reads h (hold_set w links scope env c.vars to.0 (Lasting y) unused held) leads waits (remade cps w links s s u (counted n u) made refl refl) low in
       reaches_after cps p w Low (give P scope k x s) at z n (give_moves cps p laid Low) (w.rank t) (steps p Low at z n one (omega (arith, few)) (low (length u.live) (omega arith))) arrives
   row_reaches links c t scope env s u k to ops last at n r q (changes a b x y st h) unused onward made held leads waits lows up one few =
       let s2 = store_to s a in
       let u2 = with_store (counted n u) b in
       let env2 : Env = (to.0, Lasting y) ∷ env in
       let z = going (Running ops last env2) u2 in
-      let made2 : SameMade cps w links s2 u2 = record { one = made.one; store = st; closures = made.closures; globals = made.globals; objects = made.objects; escapes = made.escapes; procedures = made.procedures } in
+      let made2 : SameMade cps w links s2 u2 = record { one = made.one; store = st; closures = made.closures; globals = made.globals; count = made.count; procedures = made.procedures; cells = made.cells; objects = made.objects; located = made.located; objected = made.objected; escapes = made.escapes } in
       let low : LowBelow cps p laid Low u2 = λ m le. lows b.heap m (let e = st.heap in let f = ap (λ o. o.heap) (given_store cps p laid Low (way scope k) x s2) in omega (arith, e, f)) le in
       let reads : lasting_value p.shared env2 (FrameArgument.Var to) ≡ Some y = ap (λ b. option_and_then lasting_of (if b then Some (Lasting y) else value_at env to.0)) (eqb_same to.0) in
       let arrives = gives_arrives cps p laid Low links s2 u2 c t k scope (FrameArgument.Var to) x y ops last env2 onward reads h (hold_set w links scope env c.vars to.0 (Lasting y) unused held) leads waits made2 low in
@@ -89,7 +89,7 @@ module _ (cps : Cps) (p : Frames) (laid : IsLaidOut cps p) (Low : ℕ → ℕ �
       reaches_step cps p w Low final at z n (give_moves cps p laid Low) (w.rank t) one (omega (arith, few)) (lows u.store.heap (length u.live) (let e = made.store.heap in omega (arith, e, up)) (omega arith)) (record {
         end = z;
         path = record { count = 0; goes = refl; moves = omega arith; low = λ i a b. absurd (omega (arith, a, b)) };
-        related = record { links = links; made = remade cps w links s final u z made refl refl refl refl refl refl; doing = same_end (runs.Faulted fault) (EndedAt (runs.Faulted fault)) refl };
+        related = record { links = links; made = remade cps w links s final u z made refl refl; doing = same_end (runs.Faulted fault) (EndedAt (runs.Faulted fault)) refl };
       })
 
   pub prim_reaches : (c : Context) (t : ℕ) (scope : Scope) (env : Env) (s : State) (u : FrameState) (b : Builtin) (args : List Arg) (k : Cont) (ms : List FrameOp) (bs : List FrameArg) (to : Var) (ops : List FrameOp) (last : FrameEnd) → Prepares cps w c.vars args ms bs

@@ -57,7 +57,7 @@ module _ (m : Links) where
 module _ (m : Links) (one : AreOneToOne m) where
   one_same : (a b c d : Val) → SameVal m a b → SameVal m c d → is_same a c ≡ is_same b d
   one_same a b c d (closure i j g) (closure k l h) = one.closures i j k l g h
-  one_same a b c d (object i j g) (object k l h) = one.objects i j k l g h
+  one_same a b c d (object i lt) (object k le) = refl
   one_same a b c d (escape i j g) (escape k l h) = one.escapes i j k l g h
   one_same a b c d (symbol n) (symbol k) = refl
   one_same a b c d (string x) (string y) = refl

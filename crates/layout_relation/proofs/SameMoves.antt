@@ -14,10 +14,10 @@ use Rattle.cps_ir.specs.declared.args.Arg.TheVariants as Argument
 use Rattle.cps_ir.specs.declared.terms.Cont.{Cont}
 use Rattle.cps_ir.specs.declared.terms.Term.TheVariants as Node
 use Rattle.cps_ir.specs.Parts.{is_assigned}
-use Rattle.cps_ir.specs.States.{Program, Direct, Bound, Begun, faulted, Scope, Closure, Pending, Waiting, Back, Live, At, Calling, State, going, ended, with_waiting, with_store, taking, with_closures}
-use Rattle.cps_ir.specs.Giving.{Way, Out, On, Lost, way, or_broken, or_unbound, meant_by, value_of, with_arg, with_args, closing, located, binding, binding_all, resumed, returned, given, give, pushing, after_row, lam_words}
+use Rattle.cps_ir.specs.States.{with_object, with_location_at, with_global_at, Program, Direct, Bound, Begun, faulted, Scope, Closure, Handler, Pending, Waiting, Back, Live, At, Calling, State, going, ended, with_waiting, with_store, taking, with_closures}
+use Rattle.cps_ir.specs.Giving.{provided, record_words, location_of, with_place, with_global, Way, Out, On, Lost, way, or_broken, or_unbound, meant_by, value_of, with_arg, with_args, closing, located, binding, binding_all, resumed, returned, given, give, pushing, after_row, lam_words}
 use Rattle.cps_ir.specs.Calls.{begun, entered, default_of, defaulted, looked, unwound, escaped, escape, operated, called}
-use Rattle.cps_ir.specs.Running.{new_closures, closures_of, performed}
+use Rattle.cps_ir.specs.Running.{handlers_of, creating, new_closures, closures_of, performed}
 
 module _ (p : Program) (n : ℕ) where
   abbrev Counts : State → Type 0
@@ -100,6 +100,38 @@ module _ (p : Program) (n : ℕ) where
   pub halt_moves : (scope : Scope) (value : Arg) (s : State) → Counts s → Counts (performed p scope (Node.Halt value) s)
   halt_moves scope value s c = by_arg scope value s (λ t v. ended (runs.Value (shown_of t.store v)) t) c (λ t v d. d)
 
+  by_global : (g : ℕ) (s : State) (go : Val → State) → Counts s → ((v : Val) → Counts (go v)) → Counts (with_global g s go)
+  by_global g s go c h = by_unbound (slice_get s.globals g) s (λ o. or_unbound o s go) c (λ o. by_unbound o s go c h)
+
+  pub global_get_moves : (scope : Scope) (g : ℕ) (k : Cont) (s : State) → Counts s → Counts (performed p scope (Node.GlobalGet g k) s)
+  global_get_moves scope g k s c = by_global g s (λ v. give p scope k v s) c (λ v. by_given (way scope k) v s c)
+
+  pub global_init_moves : (scope : Scope) (g : ℕ) (value : Arg) (k : Cont) (s : State) → Counts s → Counts (performed p scope (Node.GlobalInit g value k) s)
+  global_init_moves scope g value k s c = by_arg scope value s (λ t v. give p scope k v (with_global_at t g v)) c (λ t v d. by_given (way scope k) v (with_global_at t g v) d)
+
+  pub global_set_moves : (scope : Scope) (g : ℕ) (value : Arg) (k : Cont) (s : State) → Counts s → Counts (performed p scope (Node.GlobalSet g value k) s)
+  global_set_moves scope g value k s c = by_arg scope value s (λ t v. with_global g t (λ old. give p scope k v (with_global_at t g v))) c (λ t v d. by_global g t (λ old. give p scope k v (with_global_at t g v)) d (λ old. by_given (way scope k) v (with_global_at t g v) d))
+
+  pub cell_moves : (scope : Scope) (x : Var) (value : Arg) (rest : ℕ) (s : State) → Counts s → Counts (performed p scope (Node.Cell x value rest) s)
+  cell_moves scope x value rest s c = by_arg scope value s (λ t v. located x.0 v scope t (λ inner u. going (At rest inner) u)) c (λ t v d. d)
+
+  pub cell_get_moves : (scope : Scope) (x : Var) (k : Cont) (s : State) → Counts s → Counts (performed p scope (Node.CellGet x k) s)
+  cell_get_moves scope x k s c = by_unbound (option_and_then (value_of s) (meant_by scope x.0)) s (λ v. give p scope k v s) c (λ v. by_given (way scope k) v s c)
+
+  pub cell_set_moves : (scope : Scope) (x : Var) (value : Arg) (k : Cont) (s : State) → Counts s → Counts (performed p scope (Node.CellSet x value k) s)
+  cell_set_moves scope x value k s c = by_arg scope value s (λ t v. with_place scope x.0 t (λ l. give p scope k v (with_location_at t l v))) c
+      (λ t v d. by_unbound (option_and_then location_of (meant_by scope x.0)) t (λ l. give p scope k v (with_location_at t l v)) d (λ l. by_given (way scope k) v (with_location_at t l v) d))
+
+  by_provided : (b : Bool) (s : State) (go : State → State) → Counts s → Counts (go s) → Counts (provided b s go)
+  by_provided true s go c h = h
+  by_provided false s go c h = c
+
+  pub object_moves : (scope : Scope) (proc : Arg) (ops methods : List ℕ) (k : Cont) (s : State) → Counts s → Counts (performed p scope (Node.Object proc ops methods k) s)
+  object_moves scope proc ops methods k s c =
+      let go : State → Val → State = λ t v. creating p (record { procedure = v; handlers = handlers_of ops methods scope }) t (λ u w. give p scope k w u) in
+      by_provided (length ops == length methods) s (λ r. with_arg p scope proc r go) c
+      (by_arg scope proc s go c (λ t v d. by_given (way scope k) (ObjectV (length t.objects)) (taking (record_words p.cps) (with_object t (record { procedure = v; handlers = handlers_of ops methods scope }))) d))
+
   -- ---- calls
 
   pub entered_moves : (c : Closure) (args : List Val) (s : State) → Counts s → Counts (entered p c args s)
@@ -131,5 +163,6 @@ module _ (p : Program) (n : ℕ) where
   by_default None args s c = c
   by_default (Some x) args s c = c
 
-  pub looked_moves : (o : ℕ) (args : List Val) (s : State) → Counts s → Counts (looked p o [] args s)
-  looked_moves o args s c = by_default (default_of p.cps o) args s c
+  pub looked_moves : (o : ℕ) (hs : List Handler) (args : List Val) (s : State) → Counts s → Counts (looked p o hs args s)
+  looked_moves o [] args s c = by_default (default_of p.cps o) args s c
+  looked_moves o (h ∷ hs) args s c = c

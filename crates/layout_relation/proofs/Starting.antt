@@ -129,6 +129,14 @@ procedure_at (x ∷ gs) next g code e = by (is_procedure x) (is_proc_at x.kind) 
     by true c same is at (suc g) e go_on go_by = later_true g is (go_on g (sym (ap (λ d. number_among (λ info. is_proc_at info.kind) (if d then suc next else next) gs g) (at ∙ sym same)) ∙ e))
     by false c same is at (suc g) e go_on go_by = later_false g is (go_by g (sym (ap (λ d. number_among (λ info. is_proc_at info.kind) (if d then suc next else next) gs g) (at ∙ sym same)) ∙ e))
 
+globals_count : (gs : List Global1) (next : ℕ) → length (first_globals next gs) ≡ length gs
+globals_count [] next = refl
+globals_count (g ∷ gs) next = by (is_procedure g) (globals_count gs (suc next)) (globals_count gs next)
+  where
+    by : (b : Bool) → length (first_globals (suc next) gs) ≡ length gs → length (first_globals next gs) ≡ length gs → length (if b then Some (ClosureV next) ∷ first_globals (suc next) gs else None ∷ first_globals next gs) ≡ suc (length gs)
+    by true h k = ap suc h
+    by false h k = ap suc k
+
 -- ---- stores
 
 pairs_same : (links : Links) (pairs : List (Const × Const)) → AllZip (SamePair links) (map (λ p. (val_of p.0, val_of p.1)) pairs) (map (λ p. (val_of p.0, val_of p.1)) pairs)
@@ -152,7 +160,7 @@ module _ (cps : Cps) (p : Frames) (laid : IsLaidOut cps p) where
   gs = cps.shared.globals.items
 
   abbrev links : Links
-  links = record { closures = ties 0 0 (procs gs); objects = []; escapes = []; cells = [] }
+  links = record { closures = ties 0 0 (procs gs); escapes = []; objects = 0; cells = 0 }
 
   tied_at : (k : ℕ) → k < length (procs gs) → IsTied links.closures (0 + k) (0 + k)
   tied_at k lt = tie_at (procs gs) 0 0 k lt
@@ -179,11 +187,15 @@ module _ (cps : Cps) (p : Frames) (laid : IsLaidOut cps p) where
 
   made_at_start : SameMade cps laid.sketch links (start cps) (bare_state p)
   made_at_start = record {
-    one = record { closures = equal_numbers (procs gs); objects = λ i j k l g h. absurd (in_none (i, j) g); escapes = λ i j k l g h. absurd (in_none (i, j) g) };
+    one = record { closures = equal_numbers (procs gs); escapes = λ i j k l g h. absurd (in_none (i, j) g) };
     store = subst (λ sh. SameStore links (first_store cps.shared) (first_store sh)) (sym laid.shared) (store_same links cps.shared);
     closures = closures_at;
     globals = subst (λ sh. AllZip (SameOption (SameVal links)) (first_globals 0 gs) (first_globals_at 0 sh.globals.items)) (sym laid.shared) (globals_same links gs 0 tied_at);
-    objects = refl;
+    count = globals_count gs 0;
+    cells = tt;
+    objects = tt;
+    located = omega arith;
+    objected = omega arith;
     escapes = refl;
     procedures = λ g code e. let r = procedure_at gs 0 g code e in let w = r.within in (r.is, subst (λ n. IsTied links.closures n n) (let q : 0 + code ≡ code = omega arith in q) (tied_at code (omega (arith, w))));
   }
@@ -207,7 +219,7 @@ module _ (cps : Cps) (p : Frames) (laid : IsLaidOut cps p) where
       ∙ ap (λ env. begun b env t) (none_bound b.params) in
       subst (λ u. Related cps laid.sketch (start cps) u) (sym is) (record {
         links = links;
-        made = remade cps laid.sketch links (start cps) (start cps) t end made_at_start refl refl refl refl refl refl;
+        made = remade cps laid.sketch links (start cps) (start cps) t end made_at_start refl refl;
         doing = same_term (record { vars = paired [] b.params; exits = NoExit; catches = [] }) cps.entry [] b.ops.items b.last [] fits.lays (λ x y i. absurd (in_none (x, y) i)) (leads_none []) waits_none;
       })
 

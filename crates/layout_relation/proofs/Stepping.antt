@@ -1,7 +1,7 @@
 -- Calls that are made or passed on, and operations that look for their default, on both sides.
-use Rattle.std.proofs.Common.{◌≡◌, ℕ, zero, suc, ◌+◌, ◌≤◌, ◌<◌, Bool, true, false, if◌then◌else◌, List, [], ◌∷◌, length, map, take, filter, Option, Some, None, slice_get, refl, sym, ap, subst, ◌∙◌, arith}
-use Rattle.std.specs.Prelude.{count_by}
-use Rattle.std.specs.Option.{option_map_or}
+use Rattle.std.proofs.Common.{◌≡◌, ℕ, zero, suc, ◌+◌, ◌≤◌, ◌<◌, Bool, true, false, if◌then◌else◌, ◌==◌, List, [], ◌∷◌, length, map, take, filter, Option, Some, None, slice_get, refl, sym, ap, subst, ◌∙◌, arith}
+use Rattle.std.specs.Prelude.{count_by, option_and_then}
+use Rattle.std.specs.Option.{option_map, option_map_or}
 use Rattle.std.proofs.lemmas.Bool.{true≢false}
 use Rattle.std.proofs.lemmas.List.Sums.{length-filter, sum_by-cons}
 use Rattle.t_base.specs.declared.faults.Fault.TheVariants.{WrongCount, NotProcedure, NotHandled}
@@ -9,29 +9,30 @@ use Rattle.t_base.specs.declared.shared_parts.Global1.{Global1}
 use Rattle.t_base.specs.declared.shared_parts.GlobalKind.{GlobalKind}
 use Rattle.t_base.specs.declared.shared_parts.GlobalKind.TheVariants as Kind
 use Rattle.t_base.specs.declared.shared_parts.OpInfo.{OpInfo}
-use Rattle.t_prim.specs.Values.{Val, ClosureV, OperationV, Store}
+use Rattle.t_prim.specs.Values.{Val, FixV, CharV, NilV, TrueV, SymbolV, StringV, PairV, VectorV, ClosureV, ObjectV, OperationV, BuiltinV, EscapeV, Store}
 use Rattle.t_prim.specs.Operands.{Row}
 use Rattle.t_prim.specs.Table.{row}
 use Rattle.cps_ir.specs.declared.terms.Cps.{Cps}
 use Rattle.cps_ir.specs.Parts.{is_proc, is_procedure, global_lams, first_lams}
-use Rattle.cps_ir.specs.States.{At, Looking, Entering, State, Program, marked, all_escape, Closure, Waiting, Back, Live, going as going_to, faulted as faulted_to, with_store as store_to, with_waiting}
+use Rattle.cps_ir.specs.States.{At, Calling, Looking, Entering, State, Program, marked, all_escape, Closure, Handler, Object, Waiting, Back, Live, going as going_to, faulted as faulted_to, with_store as store_to, with_waiting}
 use Rattle.cps_ir.specs.Giving.{Way, Out, On, Lost, or_unbound, after_row as row_to, returned, given}
 use Rattle.cps_ir.specs.Calls.{entered as entered_to, called as called_to, operated as operated_to, looked as looked_to, default_at, default_of, handlers_at, defaulted as defaulted_to}
 use Rattle.frame_ir.specs.declared.forms.Frames.{Frames}
-use Rattle.frame_ir.specs.Values.{Lasting}
-use Rattle.frame_ir.specs.States.{Looking as LookingAt, Entering as EnteringAt, State as FrameState, going, faulted, or_wrong, after_row, with_store}
+use Rattle.frame_ir.specs.declared.forms.Template.{Template}
+use Rattle.frame_ir.specs.Values.{Value, Lasting, Object as FrameObject}
+use Rattle.frame_ir.specs.States.{Calling as CallingAt, Looking as LookingAt, Entering as EnteringAt, State as FrameState, going, faulted, or_wrong, after_row, with_store}
 use Rattle.frame_ir.specs.Arguments.{is_proc as is_proc_at, number_among, proc_count, code_of_default}
-use Rattle.frame_ir.specs.Calls.{entered, returned as returned_to, called, operated, looked, methods_at, defaulted}
+use Rattle.frame_ir.specs.Calls.{entered, returned as returned_to, called, operated, looked, methods_of, methods_at, defaulted}
 use Rattle.layout_relation.specs.Links.{IsIn, Zipped, zip_none, zip_one, SameOption, neither, both, IsTied, Links, SameVal, fix, char, nil, truth, symbol, string, pair, vector, closure, object, operation, builtin, escape, SameRow, gives, changes, faults}
-use Rattle.layout_relation.specs.Contexts.{CodeOf}
+use Rattle.layout_relation.specs.Contexts.{CodeOf, MethodOf}
 use Rattle.layout_relation.specs.Laid.{Sketch, IsFor, IsLaidOut}
-use Rattle.layout_relation.specs.Related.{Waits, SameMade, same_look, same_entry, Related}
-use Rattle.layout_relation.proofs.Lists.{in_none}
+use Rattle.layout_relation.specs.Related.{AreCaptured, SameHandler, SameObject, IsObjectFirst, Handles, handles_none, handles, Waits, SameMade, same_call, same_look, same_entry, same_method, Related}
+use Rattle.layout_relation.proofs.Lists.{in_none, zip_get, some_at}
 use Rattle.layout_relation.proofs.Rows.{row_same}
 use Rattle.layout_relation.proofs.Preparing.{remade}
 use Rattle.layout_relation.proofs.Arriving.{Arrives, arrives_more}
 use Rattle.layout_relation.proofs.Handing.{LowBelow, bound_to, return_moves, Returns, returned_arrives}
-use Rattle.layout_relation.proofs.Calling.{Stands, entry_moves, fault_stands, needs_none, in_record, entry_stands}
+use Rattle.layout_relation.proofs.Calling.{Stands, entry_moves, fault_stands, needs_none, in_record, entry_stands, method_stands}
 
 -- ---- defaults
 
@@ -143,26 +144,64 @@ module _ (cps : Cps) (p : Frames) (laid : IsLaidOut cps p) (Low : ℕ → ℕ �
       let s2 = store_to s a in
       let t2 = with_store t b in
       let low2 : LowBelow cps p laid Low t2 = λ n le. lows b n (let e = ap (λ z. z.heap) (returned_store s.waiting x s2) in let f = st.heap in omega (arith, e, f)) le in
-      let made2 : SameMade cps w links s2 t2 = record { one = made.one; store = st; closures = made.closures; globals = made.globals; objects = made.objects; escapes = made.escapes; procedures = made.procedures } in
+      let made2 : SameMade cps w links s2 t2 = record { one = made.one; store = st; closures = made.closures; globals = made.globals; count = made.count; procedures = made.procedures; cells = made.cells; objects = made.objects; located = made.located; objected = made.objected; escapes = made.escapes } in
       let c = returns_come (returned P s.waiting x s2) t2 y (entry_moves cps p laid Low) (omega arith) low2 (returned_arrives cps p laid Low links s2 t2 x y waits h made2 low2) in
       record { arrives = c.arrives; moves = c.moves; low = c.low }
   row_comes links s t r q (faults fault) waits made low lows = stands_come (faulted_to fault s) t (faulted fault t) 0 (entry_moves cps p laid Low) (omega arith) low (fault_stands cps p laid Low links s t fault 0 made)
 
-  -- an operation: no value has methods
-  no_handlers : (links : Links) (s : State) (t : FrameState) (v u : Val) → links.objects ≡ [] → SameVal links v u → (handlers_at s v ≡ []) × (methods_at p t u ≡ [])
-  no_handlers links s t v u none (object i j h) = absurd (in_none (i, j) (subst (λ xs. IsIn (i, j) xs) none h))
-  no_handlers links s t v u none (fix z) = (refl, refl)
-  no_handlers links s t v u none (char c) = (refl, refl)
-  no_handlers links s t v u none nil = (refl, refl)
-  no_handlers links s t v u none truth = (refl, refl)
-  no_handlers links s t v u none (symbol n) = (refl, refl)
-  no_handlers links s t v u none (string x) = (refl, refl)
-  no_handlers links s t v u none (pair k) = (refl, refl)
-  no_handlers links s t v u none (vector k) = (refl, refl)
-  no_handlers links s t v u none (closure i j h) = (refl, refl)
-  no_handlers links s t v u none (operation o) = (refl, refl)
-  no_handlers links s t v u none (builtin b) = (refl, refl)
-  no_handlers links s t v u none (escape i j h) = (refl, refl)
+  -- what a value has of methods, and the object that has them
+  pub record Methods (links : Links) (s : State) (t : FrameState) (v u : Val) (us : List Val) : Type 0 where
+    pub hs : List Handler
+    pub ms : List (ℕ × ℕ)
+    pub left : handlers_at s v ≡ hs
+    pub right : methods_at p t u ≡ ms
+    pub captured : List Value
+    pub kept : List ℕ
+    pub same : Zipped (SameHandler w links captured kept) hs ms
+    pub handled : Handles t.objects (u ∷ us) captured hs
+
+  no_methods : (links : Links) (s : State) (t : FrameState) (v u : Val) (us : List Val) → handlers_at s v ≡ [] → methods_at p t u ≡ [] → Methods links s t v u us
+  no_methods links s t v u us e f = record { hs = []; ms = []; left = e; right = f; captured = []; kept = []; same = zip_none; handled = handles_none }
+
+  object_methods : (links : Links) (s : State) (t : FrameState) (i : ℕ) (us : List Val) (o : Option Object) (q : Option FrameObject) → slice_get s.objects i ≡ o → slice_get t.objects i ≡ q → SameOption (SameObject w links) o q → Methods links s t (ObjectV i) (ObjectV i) us
+  object_methods links s t i us o q e f neither = no_methods links s t (ObjectV i) (ObjectV i) us (ap (λ x. option_map_or (λ object. object.handlers) x []) e) (ap (λ x. option_map_or (λ t. methods_of t.ops t.codes) (option_and_then (λ object. slice_get p.templates.items object.template) x) []) f)
+  object_methods links s t i us o q e f (both x y h) = record {
+    hs = x.handlers;
+    ms = h.methods;
+    left = ap (λ x. option_map_or (λ object. object.handlers) x []) e;
+    right = ap (λ x. option_map_or (λ t. methods_of t.ops t.codes) (option_and_then (λ object. slice_get p.templates.items object.template) x) []) f
+        ∙ ap (λ ts. option_map_or (λ t. methods_of t.ops t.codes) (slice_get ts y.template) []) laid.templates
+        ∙ mapped (slice_get laid.sketch.templates y.template) h.methods h.template;
+    captured = y.captured;
+    kept = h.kept;
+    same = h.handlers;
+    handled = handles x.handlers (record { object = i; others = us; found = y; are = refl; is = f; holds = refl });
+  }
+    where
+      mapped : (o : Option Template) (ms : List (ℕ × ℕ)) → option_map (λ t. methods_of t.ops t.codes) o ≡ Some ms → option_map_or (λ t. methods_of t.ops t.codes) o [] ≡ ms
+      mapped None ms e = absurd (never ms e)
+        where
+          never : (ms : List (ℕ × ℕ)) → None ≡ Some ms → ⊥
+          never ms h = cc
+      mapped (Some x) ms e = same (methods_of x.ops x.codes) ms e
+        where
+          same : (a b : List (ℕ × ℕ)) → Some a ≡ Some b → a ≡ b
+          same a b h = cc
+
+  methods : (links : Links) (s : State) (t : FrameState) (v u : Val) (us : List Val) → SameMade cps w links s t → SameVal links v u → Methods links s t v u us
+  methods links s t v u us made (object i lt) = object_methods links s t i us (slice_get s.objects i) (slice_get t.objects i) refl refl (zip_get (SameObject w links) s.objects t.objects i made.objects)
+  methods links s t v u us made (fix z) = no_methods links s t (FixV z) (FixV z) us refl refl
+  methods links s t v u us made (char c) = no_methods links s t (CharV c) (CharV c) us refl refl
+  methods links s t v u us made nil = no_methods links s t NilV NilV us refl refl
+  methods links s t v u us made truth = no_methods links s t TrueV TrueV us refl refl
+  methods links s t v u us made (symbol n) = no_methods links s t (SymbolV n) (SymbolV n) us refl refl
+  methods links s t v u us made (string x) = no_methods links s t (StringV x) (StringV x) us refl refl
+  methods links s t v u us made (pair k) = no_methods links s t (PairV k) (PairV k) us refl refl
+  methods links s t v u us made (vector k) = no_methods links s t (VectorV k) (VectorV k) us refl refl
+  methods links s t v u us made (closure i j h) = no_methods links s t (ClosureV i) (ClosureV j) us refl refl
+  methods links s t v u us made (operation o) = no_methods links s t (OperationV o) (OperationV o) us refl refl
+  methods links s t v u us made (builtin b) = no_methods links s t (BuiltinV b) (BuiltinV b) us refl refl
+  methods links s t v u us made (escape i j h) = no_methods links s t (EscapeV i) (EscapeV j) us refl refl
 
   -- the frames stand where s is
   here_comes : (links : Links) (s : State) (t : FrameState) (most : ℕ) → Related cps w s t → LowBelow cps p laid Low t → Comes s t t most
@@ -172,12 +211,12 @@ module _ (cps : Cps) (p : Frames) (laid : IsLaidOut cps p) (Low : ℕ → ℕ �
       → Comes (operated_to o xs s) t (operated p o ys t) (entry_moves cps p laid Low)
   operation_comes links s t o xs ys zip_none waits made low = stands_come (faulted_to WrongCount s) t (faulted WrongCount t) 0 (entry_moves cps p laid Low) (omega arith) low (fault_stands cps p laid Low links s t WrongCount 0 made)
   operation_comes links s t o xs ys (zip_one v u vs us h rest) waits made low =
-      let none = no_handlers links s t v u made.objects h in
-      let s2 = going_to (Looking o [] (v ∷ vs)) s in
-      let t2 = going (LookingAt o [] (u ∷ us)) t in
-      let c = here_comes links s2 t2 (entry_moves cps p laid Low) (record { links = links; made = remade cps w links s s2 t t2 made refl refl refl refl refl refl; doing = same_look o (v ∷ vs) (u ∷ us) (zip_one v u vs us h rest) waits }) low in
+      let m = methods links s t v u us made h in
+      let s2 = going_to (Looking o m.hs (v ∷ vs)) s in
+      let t2 = going (LookingAt o m.ms (u ∷ us)) t in
+      let c = here_comes links s2 t2 (entry_moves cps p laid Low) (record { links = links; made = made; doing = same_look o m.hs m.ms m.captured m.kept (v ∷ vs) (u ∷ us) m.same m.handled (zip_one v u vs us h rest) waits }) low in
       let d : Comes s2 t t2 (entry_moves cps p laid Low) = record { arrives = c.arrives; moves = c.moves; low = c.low } in
-      comes_by (operated_to o (v ∷ vs) s) s2 t (operated p o (u ∷ us) t) t2 (entry_moves cps p laid Low) (ap (λ hs. going_to (Looking o hs (v ∷ vs)) s) none.0) (ap (λ ms. going (LookingAt o ms (u ∷ us)) t) none.1) d
+      comes_by (operated_to o (v ∷ vs) s) s2 t (operated p o (u ∷ us) t) t2 (entry_moves cps p laid Low) (ap (λ hs. going_to (Looking o hs (v ∷ vs)) s) m.left) (ap (λ ms. going (LookingAt o ms (u ∷ us)) t) m.right) d
 
   no_procedure : (links : Links) (s : State) (t : FrameState) → SameMade cps w links s t → LowBelow cps p laid Low t → Comes (faulted_to NotProcedure s) t (faulted NotProcedure t) (entry_moves cps p laid Low)
   no_procedure links s t made low = stands_come (faulted_to NotProcedure s) t (faulted NotProcedure t) 0 (entry_moves cps p laid Low) (omega arith) low (fault_stands cps p laid Low links s t NotProcedure 0 made)
@@ -193,10 +232,24 @@ module _ (cps : Cps) (p : Frames) (laid : IsLaidOut cps p) (Low : ℕ → ℕ �
       (stands_come (entered_to P at.left xs s) t (entered p at.right.code vs t) (entry_moves cps p laid Low) (entry_moves cps p laid Low) (omega arith) low
       (entry_stands cps p laid Low links s t at.left at.right.code (ClosureV j) xs ys at.same.runs (in_record j at.right refl at.at at.same.captured) same waits made low))
 
+  none_some : {X : Type 0} (x : X) → None ≡ Some x → ⊥
+  none_some x h = cc
+
+  -- an object passes the call on
+  object_comes : (links : Links) (s : State) (t : FrameState) (i : ℕ) (xs ys : List Val) → i < links.objects → (o : Option Object) (q : Option FrameObject) → slice_get s.objects i ≡ o → slice_get t.objects i ≡ q → SameOption (SameObject w links) o q → Zipped (SameVal links) xs ys → Waits w links t.frames [] s.waiting t.live
+      → SameMade cps w links s t → LowBelow cps p laid Low t → Comes (called_to P (ObjectV i) xs s) t (called p (ObjectV i) ys t) (entry_moves cps p laid Low)
+  object_comes links s t i xs ys lt o q e f neither same waits made low = let there = some_at s.objects i (let up = made.objected in omega (arith, lt, up)) in absurd (none_some there.0 (sym e ∙ there.1))
+  object_comes links s t i xs ys lt o q e f (both x y h) same waits made low =
+      let s2 = going_to (Calling x.procedure xs) s in
+      let t2 = going (CallingAt (Lasting y.procedure) ys) t in
+      let c = here_comes links s2 t2 (entry_moves cps p laid Low) (record { links = links; made = made; doing = same_call x.procedure y.procedure xs ys h.procedure same waits }) low in
+      comes_by (called_to P (ObjectV i) xs s) s2 t (called p (ObjectV i) ys t) t2 (entry_moves cps p laid Low) (ap (λ z. or_unbound z s (λ object. going_to (Calling object.procedure xs) s)) e) (ap (λ z. or_wrong z t (λ object. going (CallingAt (Lasting object.procedure) ys) t)) f)
+      (record { arrives = c.arrives; moves = c.moves; low = c.low })
+
   pub called_comes : (links : Links) (s : State) (t : FrameState) (f g : Val) (xs ys : List Val) → SameVal links f g → Zipped (SameVal links) xs ys → Waits w links t.frames [] s.waiting t.live → SameMade cps w links s t → LowBelow cps p laid Low t
       → ((st : Store) (n : ℕ) → st.heap ≤ (called_to P f xs s).store.heap → n ≤ length t.live → Low st.heap n) → Comes (called_to P f xs s) t (called p g ys t) (entry_moves cps p laid Low)
   called_comes links s t f g xs ys (closure i j h) same waits made low lows = closure_comes links s t i j xs ys h same waits made low
-  called_comes links s t f g xs ys (object i j h) same waits made low lows = absurd (in_none (i, j) (subst (λ xs. IsIn (i, j) xs) made.objects h))
+  called_comes links s t f g xs ys (object i lt) same waits made low lows = object_comes links s t i xs ys lt (slice_get s.objects i) (slice_get t.objects i) refl refl (zip_get (SameObject w links) s.objects t.objects i made.objects) same waits made low
   called_comes links s t f g xs ys (escape i j h) same waits made low lows = absurd (in_none (i, j) (subst (λ xs. IsIn (i, j) xs) made.escapes h))
   called_comes links s t f g xs ys (operation o) same waits made low lows = operation_comes links s t o xs ys same waits made low
   called_comes links s t f g xs ys (builtin b) same waits made low lows = row_comes links s t (row b xs s.store) (row b ys t.store) (row_same links made.one b xs ys s.store t.store same made.store) waits made low lows
@@ -218,13 +271,41 @@ module _ (cps : Cps) (p : Frames) (laid : IsLaidOut cps p) (Low : ℕ → ℕ �
       let first = laid.firsts k h.within in
       let s2 = going_to (Entering d xs) s in
       let t2 = going (EnteringAt k (Lasting (OperationV o) ∷ map Lasting ys)) t in
-      let r = here_comes links s2 t2 (entry_moves cps p laid Low) (record { links = links; made = remade cps w links s s2 t t2 made refl refl refl refl refl refl; doing = same_entry d k (OperationV o) xs ys (subst (λ l. IsFor w k (CodeOf l)) (sym h.lam) first.0) (ap w.needs h.lam ∙ first.1) same waits }) low in
+      let r = here_comes links s2 t2 (entry_moves cps p laid Low) (record { links = links; made = remade cps w links s s2 t t2 made refl refl; doing = same_entry d k (OperationV o) xs ys (subst (λ l. IsFor w k (CodeOf l)) (sym h.lam) first.0) (ap w.needs h.lam ∙ first.1) same waits }) low in
       record { arrives = r.arrives; moves = r.moves; low = r.low }
 
-  pub looked_comes : (links : Links) (s : State) (t : FrameState) (o : ℕ) (xs ys : List Val) → Zipped (SameVal links) xs ys → Waits w links t.frames [] s.waiting t.live → SameMade cps w links s t → LowBelow cps p laid Low t
-      → Comes (looked_to P o [] xs s) t (looked p o [] ys t) (entry_moves cps p laid Low)
-  looked_comes links s t o xs ys same waits made low =
-      default_comes links s t o xs ys (default_of cps o) (code_of_default p.shared o) (subst (λ sh. SameOption (SameDefault cps) (default_of cps o) (code_of_default sh o)) (sym laid.shared) (default_same cps o)) same waits made low
+  look_test : (links : Links) (s : State) (t : FrameState) (o : ℕ) (h : Handler) (hs : List Handler) (m : ℕ × ℕ) (ms : List (ℕ × ℕ)) (captured : List Value) (kept : List ℕ) (xs ys : List Val) → (b c : Bool) → b ≡ c → SameHandler w links captured kept h m → Zipped (SameHandler w links captured kept) hs ms
+      → IsObjectFirst t.objects ys captured → Zipped (SameVal links) xs ys → Waits w links t.frames [] s.waiting t.live → SameMade cps w links s t → LowBelow cps p laid Low t
+      → Comes (going_to (if b then Entering h.closure xs else Looking o hs xs) s) t (going (if c then EnteringAt m.1 (map Lasting ys) else LookingAt o ms ys) t) (entry_moves cps p laid Low)
+  look_test links s t o h hs m ms captured kept xs ys true c e same others front sames waits made low =
+      let s2 = going_to (Entering h.closure xs) s in
+      let t2 = going (EnteringAt m.1 (map Lasting ys)) t in
+      let r = here_comes links s2 t2 (entry_moves cps p laid Low) (record { links = links; made = made; doing = same_method h.closure m.1 captured kept xs ys same.runs same.holds front sames waits }) low in
+      subst (λ c. Comes s2 t (going (if c then EnteringAt m.1 (map Lasting ys) else LookingAt o ms ys) t) (entry_moves cps p laid Low)) e (record { arrives = r.arrives; moves = r.moves; low = r.low })
+  look_test links s t o h hs m ms captured kept xs ys false c e same others front sames waits made low =
+      let s2 = going_to (Looking o hs xs) s in
+      let t2 = going (LookingAt o ms ys) t in
+      let r = here_comes links s2 t2 (entry_moves cps p laid Low) (record { links = links; made = made; doing = same_look o hs ms captured kept xs ys others (handles hs front) sames waits }) low in
+      subst (λ c. Comes s2 t (going (if c then EnteringAt m.1 (map Lasting ys) else LookingAt o ms ys) t) (entry_moves cps p laid Low)) e (record { arrives = r.arrives; moves = r.moves; low = r.low })
+
+  handled_first : (objects : List FrameObject) (ys : List Val) (captured : List Value) (h : Handler) (hs all : List Handler) → Handles objects ys captured all → all ≡ h ∷ hs → IsObjectFirst objects ys captured
+  handled_first objects ys captured h hs all handles_none e = absurd (never e)
+    where
+      never : [] ≡ h ∷ hs → ⊥
+      never q = cc
+  handled_first objects ys captured h hs all (handles gs front) e = front
+
+  pub looked_comes : (links : Links) (s : State) (t : FrameState) (o : ℕ) (hs : List Handler) (ms : List (ℕ × ℕ)) (captured : List Value) (kept : List ℕ) (xs ys : List Val) → Zipped (SameHandler w links captured kept) hs ms → Handles t.objects ys captured hs → Zipped (SameVal links) xs ys
+      → Waits w links t.frames [] s.waiting t.live → SameMade cps w links s t → LowBelow cps p laid Low t → Comes (looked_to P o hs xs s) t (looked p o ms ys t) (entry_moves cps p laid Low)
+  looked_comes links s t o hs ms captured kept xs ys zip_none handled sames waits made low =
+      default_comes links s t o xs ys (default_of cps o) (code_of_default p.shared o) (subst (λ sh. SameOption (SameDefault cps) (default_of cps o) (code_of_default sh o)) (sym laid.shared) (default_same cps o)) sames waits made low
+  looked_comes links s t o hs ms captured kept xs ys (zip_one h m gs ns same others) handled sames waits made low =
+      look_test links s t o h gs m ns captured kept xs ys (h.op == o) (m.0 == o) (ap (λ n. n == o) same.op) same others (handled_first t.objects ys captured h gs (h ∷ gs) handled refl) sames waits made low
+
+  pub method_comes : (links : Links) (s : State) (t : FrameState) (c : Closure) (code : ℕ) (captured : List Value) (kept : List ℕ) (xs ys : List Val) → IsFor w code (MethodOf c.lam kept) → AreCaptured w links c.scope kept captured → IsObjectFirst t.objects ys captured
+      → Zipped (SameVal links) xs ys → Waits w links t.frames [] s.waiting t.live → SameMade cps w links s t → LowBelow cps p laid Low t → Comes (entered_to P c xs s) t (entered p code (map Lasting ys) t) (entry_moves cps p laid Low)
+  method_comes links s t c code captured kept xs ys for holds front same waits made low =
+      stands_come (entered_to P c xs s) t (entered p code (map Lasting ys) t) (entry_moves cps p laid Low) (entry_moves cps p laid Low) (omega arith) low (method_stands cps p laid Low links s t c code captured kept xs ys for holds front same waits made low)
 
   pub entering_comes : (links : Links) (s : State) (t : FrameState) (c : Closure) (code : ℕ) (self : Val) (xs ys : List Val) → IsFor w code (CodeOf c.lam) → w.needs c.lam ≡ [] → Zipped (SameVal links) xs ys → Waits w links t.frames [] s.waiting t.live → SameMade cps w links s t
       → LowBelow cps p laid Low t → Comes (entered_to P c xs s) t (entered p code (Lasting self ∷ map Lasting ys) t) (entry_moves cps p laid Low)

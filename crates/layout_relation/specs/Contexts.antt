@@ -89,6 +89,8 @@ pub data Purpose : Type 0 where
   -- the code of the closures of a procedure
   CodeOf : (lam : ℕ) → Purpose
   Begins : (start : Start) → Purpose
+  -- the code of a method of an object that keeps these variables
+  MethodOf : (lam : ℕ) (kept : List ℕ) → Purpose
   -- an arm of an If, which sees what is seen at its end
   ArmOf : (context : Context) (term : ℕ) → Purpose
   -- the block to which a call returns

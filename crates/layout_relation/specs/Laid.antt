@@ -3,7 +3,7 @@
 -- Each block has a purpose. A term is laid out by the rest of a block: by the closures that its arguments make, by its own operation, and
 -- by what goes on with its value. Procedures have a code block, which fetches what they need from their closure, and go on in a block that
 -- begins the body. A continuation that is written out, and the k of a Join, give a frame at a call: the variables that are needed behind it.
-use Rattle.std.specs.Prelude.{◌≡◌, ℕ, ◌+◌, ◌<◌, ◌≤◌, ◌==◌, nat_lt, Bool, true, false, List, [], ◌∷◌, ◌++◌, length, map, Some, slice_get, IsSomeAnd}
+use Rattle.std.specs.Prelude.{◌≡◌, ℕ, suc, ◌+◌, ◌<◌, ◌≤◌, ◌==◌, nat_lt, Bool, true, false, List, [], ◌∷◌, ◌++◌, length, map, zip, Some, slice_get, IsSomeAnd, None, Option}
 use Rattle.std.specs.List.{AllByRecursion}
 use Rattle.t_base.specs.declared.basics.Var.{Var}
 use Rattle.t_base.specs.declared.builtins.Builtin.{Builtin}
@@ -26,20 +26,23 @@ use Rattle.frame_ir.specs.declared.forms.FrameOp.TheVariants as Op
 use Rattle.frame_ir.specs.declared.forms.FrameEnd.{FrameEnd}
 use Rattle.frame_ir.specs.declared.forms.FrameEnd.TheVariants as Last
 use Rattle.frame_ir.specs.declared.forms.Block.{Block}
+use Rattle.frame_ir.specs.declared.forms.Template.{Template}
 use Rattle.frame_ir.specs.declared.forms.Frames.{Frames}
 use Rattle.frame_ir.specs.Arguments.{code_of_global}
+use Rattle.frame_ir.specs.Calls.{methods_of}
 use Rattle.layout_relation.specs.Links.{IsIn, Zipped}
-use Rattle.layout_relation.specs.Contexts.{Meeting, Exits, NoExit, OwnExit, JoinExit, Leaves, Meets, exit_of, IsUnneeded, Context, IsFresh, IsUnused, with_var, paired, Start, Return, Purpose, CodeOf, Begins, ArmOf, Resumes}
+use Rattle.layout_relation.specs.Contexts.{Meeting, Exits, NoExit, OwnExit, JoinExit, Leaves, Meets, exit_of, IsUnneeded, Context, IsFresh, IsUnused, with_var, paired, Start, Return, Purpose, CodeOf, MethodOf, Begins, ArmOf, Resumes}
 
 -- ---- the whole layout
 
 -- What each block is for; the variables that each procedure needs of the scope in which its closure is made; which variables are cells;
--- and a number for each term, which falls from a term to one behind it where the block may do nothing between them.
+-- a number for each term, which falls from a term to one behind it where the block may do nothing between them; and the templates of objects.
 pub record Sketch : Type 0 where
   pub purposes : List Purpose
   pub needs : ℕ → List ℕ
   pub celled : ℕ → Bool
   pub rank : ℕ → ℕ
+  pub templates : List Template
 
 abbrev pub IsFor : Sketch → ℕ → Purpose → Type 0
 IsFor w block purpose = slice_get w.purposes block ≡ Some purpose
@@ -125,6 +128,13 @@ pub data Labels (cps : Cps) (w : Sketch) (vars : List (ℕ × ℕ)) : List Var �
 abbrev pub labelled : List Var → List Var → Context → Context
 labelled xs tos c = record c { vars = paired (numbers xs) tos ++ c.vars }
 
+-- ---- methods
+
+-- an operation with a method, and the operation with the code of the method of an object that keeps these variables
+pub record IsMethod (w : Sketch) (needs : List ℕ) (x y : ℕ × ℕ) : Type 0 where
+  pub op : x.0 ≡ y.0
+  pub runs : IsFor w y.1 (MethodOf x.1 needs)
+
 -- ---- what goes on
 
 -- so many variables a frame keeps or a jump passes, at most
@@ -192,6 +202,26 @@ mutual
     lays_give : (c : Context) (t : ℕ) (k : Cont) (value : Arg) (made : List FrameOp) (b : FrameArg) (ops : List FrameOp) (last : FrameEnd) → Prepares cps w c.vars (value ∷ []) made (b ∷ [])
         → StartsApart ops → Gives cps w c t k b ops last
         → LaysTerm cps w c t (Node.Give k value) (made ++ ops) last
+    lays_global_get : (c : Context) (t g : ℕ) (k : Cont) (to : Var) (ops : List FrameOp) (last : FrameEnd) → g < length cps.shared.globals.items → IsUnused c.vars to.0 → Gives cps w c t k (FrameArgument.Var to) ops last
+        → LaysTerm cps w c t (Node.GlobalGet g k) (Op.GlobalGet to g ∷ ops) last
+    lays_global_init : (c : Context) (t g : ℕ) (value : Arg) (k : Cont) (made : List FrameOp) (b : FrameArg) (ops : List FrameOp) (last : FrameEnd) → g < length cps.shared.globals.items → code_of_global cps.shared g ≡ None
+        → Prepares cps w c.vars (value ∷ []) made (b ∷ []) → Gives cps w c t k b ops last
+        → LaysTerm cps w c t (Node.GlobalInit g value k) (made ++ Op.GlobalPut g b true ∷ ops) last
+    lays_global_set : (c : Context) (t g : ℕ) (value : Arg) (k : Cont) (made : List FrameOp) (b : FrameArg) (ops : List FrameOp) (last : FrameEnd) → g < length cps.shared.globals.items → code_of_global cps.shared g ≡ None
+        → Prepares cps w c.vars (value ∷ []) made (b ∷ []) → Gives cps w c t k b ops last
+        → LaysTerm cps w c t (Node.GlobalSet g value k) (made ++ Op.GlobalPut g b false ∷ ops) last
+    lays_cell : (c : Context) (t : ℕ) (x : Var) (value : Arg) (rest : ℕ) (made : List FrameOp) (b : FrameArg) (to : Var) (ops : List FrameOp) (last : FrameEnd) → Prepares cps w c.vars (value ∷ []) made (b ∷ [])
+        → IsFresh c x.0 → w.celled x.0 ≡ true → IsUnused c.vars to.0 → GoesOn cps w (with_var x.0 to.0 c) rest ops last
+        → LaysTerm cps w c t (Node.Cell x value rest) (made ++ Op.Cell to b ∷ ops) last
+    lays_cell_get : (c : Context) (t : ℕ) (x y : Var) (k : Cont) (to : Var) (ops : List FrameOp) (last : FrameEnd) → IsIn (x.0, y.0) c.vars → w.celled x.0 ≡ true → IsUnused c.vars to.0 → Gives cps w c t k (FrameArgument.Var to) ops last
+        → LaysTerm cps w c t (Node.CellGet x k) (Op.CellGet to y ∷ ops) last
+    lays_cell_set : (c : Context) (t : ℕ) (x y : Var) (value : Arg) (k : Cont) (made : List FrameOp) (b : FrameArg) (ops : List FrameOp) (last : FrameEnd) → Prepares cps w c.vars (value ∷ []) made (b ∷ [])
+        → IsIn (x.0, y.0) c.vars → w.celled x.0 ≡ true → Gives cps w c t k b ops last
+        → LaysTerm cps w c t (Node.CellSet x value k) (made ++ Op.CellSet y b ∷ ops) last
+    lays_object : (c : Context) (t : ℕ) (proc : Arg) (names methods : List ℕ) (k : Cont) (made : List FrameOp) (b : FrameArg) (template : ℕ) (shape : Template) (needs : List ℕ) (kept : List Var) (to : Var) (ops : List FrameOp) (last : FrameEnd)
+        → Prepares cps w c.vars (proc ∷ []) made (b ∷ []) → (length names == length methods) ≡ true → slice_get w.templates template ≡ Some shape
+        → Zipped (IsMethod w needs) (zip names methods) (methods_of shape.ops shape.codes) → AreHeld c.vars needs kept → length needs ≤ cps.shared.size → IsUnused c.vars to.0 → Gives cps w c t k (FrameArgument.Var to) ops last
+        → LaysTerm cps w c t (Node.Object proc names methods k) (made ++ Op.Object to template b kept ∷ ops) last
     lays_halt : (c : Context) (t : ℕ) (value : Arg) (made : List FrameOp) (b : FrameArg) → Prepares cps w c.vars (value ∷ []) made (b ∷ [])
         → LaysTerm cps w c t (Node.Halt value) made (Last.Halt b)
 
@@ -241,8 +271,30 @@ pub record ReturnFits (cps : Cps) (w : Sketch) (r : Return) (b : Block) : Type 0
   pub few : length gets ≤ most_needs cps
   pub goes : GoesOn cps w (record { vars = vars; exits = r.exits; catches = r.catches }) r.body rest b.last
 
+-- the code of a method: the operands, of which the first one is the object, then what it needs out of what the object keeps
+pub record MethodFits (cps : Cps) (w : Sketch) (l : ℕ) (kept : List ℕ) (b : Block) : Type 0 where
+  pub lam : Lam
+  pub is : slice_get cps.lams.items l ≡ Some lam
+  pub self : Var
+  pub params : List Var
+  pub vars : List (ℕ × ℕ)
+  pub ys : List Var
+  pub body : ℕ
+  pub takes : b.params ≡ self ∷ params
+  pub distinct : AreDistinct (self.0 ∷ numbers params)
+  pub count : suc (length params) ≡ length lam.params
+  pub few : length lam.params ≤ 20
+  pub fetches : Fetches (λ y slot. Op.ClosureGet y self slot) self.0 kept (paired (numbers lam.params) (self ∷ params)) vars b.ops.items
+  pub short : length b.ops.items ≤ most_needs cps
+  pub goes : b.last ≡ Last.Jump body (variables ys)
+  pub begins : IsFor w body (Begins (record { vars = numbers lam.params ++ w.needs l; exits = OwnExit lam.k.0; catches = []; term = lam.body }))
+  pub held : AreHeld vars (numbers lam.params ++ w.needs l) ys
+  pub once : AreDistinct (numbers lam.params)
+  pub apart : AllByRecursion (λ x. (is_in kept x ≡ false) × (w.celled x ≡ false)) (numbers lam.params)
+
 abbrev pub BlockFits : Cps → Sketch → Purpose → Block → Type 0
 BlockFits cps w (CodeOf l) b = CodeFits cps w l b
+BlockFits cps w (MethodOf l kept) b = MethodFits cps w l kept b
 BlockFits cps w (Begins start) b = BeginFits cps w start b
 BlockFits cps w (ArmOf c t) b = ArmFits cps w c t b
 BlockFits cps w (Resumes r) b = ReturnFits cps w r b
@@ -258,5 +310,6 @@ pub record IsLaidOut (cps : Cps) (p : Frames) : Type 0 where
   pub blocks : (k : ℕ) (purpose : Purpose) → IsFor sketch k purpose → IsSomeAnd (slice_get p.blocks.items k) (BlockFits cps sketch purpose)
   -- a closure keeps at most as much as the unit's largest form has nodes
   pub small : (l : ℕ) → length (sketch.needs l) ≤ cps.shared.size
+  pub templates : p.templates.items ≡ sketch.templates
   -- there is no Set
   pub unassigned : (x : ℕ) → is_assigned cps x ≡ false

@@ -1,6 +1,6 @@
 -- Which values of the run of a program are the same as which of the run of its frames. What has an identity is tied to an address: ties
 -- are pairs of numbers, so that no value is followed into what it holds.
-use Rattle.std.specs.Prelude.{◌≡◌, ℕ, ℤ, ◌≤◌, nat_eq, Bool, true, false, List, [], ◌∷◌, Option, Some, None}
+use Rattle.std.specs.Prelude.{◌≡◌, ℕ, ℤ, ◌≤◌, ◌<◌, nat_eq, Bool, true, false, List, [], ◌∷◌, Option, Some, None}
 use Rattle.std.specs.List.{AllZip}
 use Rattle.t_base.specs.declared.builtins.Builtin.{Builtin}
 use Rattle.t_base.specs.declared.faults.Fault.{Fault}
@@ -31,19 +31,20 @@ Ties = List (ℕ × ℕ)
 abbrev pub IsTied : Ties → ℕ → ℕ → Type 0
 IsTied ties i j = IsIn (i, j) ties
 
--- The number of the one run first: closures, objects, escapes by the catch and by the birth of its frame, locations and cells.
+-- The number of the one run first: closures, and escapes by the catch and by the birth of its frame. Objects are made one for one, and
+-- so are cells: each has the number of the other's, below how many there are.
 pub record Links : Type 0 where
   pub closures : Ties
-  pub objects : Ties
   pub escapes : Ties
-  pub cells : Ties
+  pub objects : ℕ
+  pub cells : ℕ
 
 -- ties are only added
 pub record Extends (old new : Links) : Type 0 where
   pub closures : (i j : ℕ) → IsTied old.closures i j → IsTied new.closures i j
-  pub objects : (i j : ℕ) → IsTied old.objects i j → IsTied new.objects i j
   pub escapes : (i j : ℕ) → IsTied old.escapes i j → IsTied new.escapes i j
-  pub cells : (i j : ℕ) → IsTied old.cells i j → IsTied new.cells i j
+  pub objects : old.objects ≤ new.objects
+  pub cells : old.cells ≤ new.cells
 
 -- two things are one exactly where their addresses are
 abbrev pub IsOneToOne : Ties → Type 0
@@ -51,7 +52,6 @@ IsOneToOne ties = (i j k l : ℕ) → IsTied ties i j → IsTied ties k l → na
 
 pub record AreOneToOne (links : Links) : Type 0 where
   pub closures : IsOneToOne links.closures
-  pub objects : IsOneToOne links.objects
   pub escapes : IsOneToOne links.escapes
 
 -- ---- values
@@ -66,7 +66,7 @@ pub data SameVal (links : Links) : Val → Val → Type 0 where
   pair : (k : ℕ) → SameVal links (PairV k) (PairV k)
   vector : (k : ℕ) → SameVal links (VectorV k) (VectorV k)
   closure : (i j : ℕ) → IsTied links.closures i j → SameVal links (ClosureV i) (ClosureV j)
-  object : (i j : ℕ) → IsTied links.objects i j → SameVal links (ObjectV i) (ObjectV j)
+  object : (i : ℕ) → i < links.objects → SameVal links (ObjectV i) (ObjectV i)
   operation : (o : ℕ) → SameVal links (OperationV o) (OperationV o)
   builtin : (b : Builtin) → SameVal links (BuiltinV b) (BuiltinV b)
   escape : (i j : ℕ) → IsTied links.escapes i j → SameVal links (EscapeV i) (EscapeV j)
@@ -74,7 +74,7 @@ pub data SameVal (links : Links) : Val → Val → Type 0 where
 -- what a variable stands for and what a variable of the frames holds, as a cell or not. No closure stands in a frame yet.
 pub data SameMeant (links : Links) : Bool → Meant → Value → Type 0 where
   value : (a b : Val) → SameVal links a b → SameMeant links false (Direct a) (Lasting b)
-  cell : (i j : ℕ) → IsTied links.cells i j → SameMeant links true (InLocation i) (CellAt j)
+  cell : (i : ℕ) → i < links.cells → SameMeant links true (InLocation i) (CellAt i)
 
 -- ---- stores
 
