@@ -30,7 +30,7 @@ use Rattle.layout_relation.proofs.Lists.{get_front, get_behind}
 use Rattle.layout_relation.proofs.Scopes.{leads_out, leads_to}
 use Rattle.layout_relation.proofs.Making.{kept_all}
 use Rattle.layout_relation.proofs.Paths.{Path, steps, more_path as more_path_at}
-use Rattle.layout_relation.proofs.Preparing.{remade}
+use Rattle.layout_relation.proofs.Preparing.{framed_made, remade}
 use Rattle.layout_relation.proofs.Arriving.{lasting_is}
 use Rattle.layout_relation.proofs.Handing.{captured_there, Reaches, reaches_after, reaches_step}
 use Rattle.layout_relation.proofs.Staged.{waiting_count, waits_count, Staged, first}
@@ -93,7 +93,7 @@ module _ (cps : Cps) (p : Frames) (laid : IsLaidOut cps p) (Low : ℕ → ℕ �
     pub kept : AreCaptured w links pending.scope r.kept values
     pub catches : r.catches ≡ c.catches
 
-  pushes : (links : Links) (c : Context) (scope : Scope) (k : Cont) (r : Return) (values : List Value) → Awaits c k r → Leads scope c.exits → AreCaptured w links scope r.kept values → Pushes links c scope k r values
+  pub pushes : (links : Links) (c : Context) (scope : Scope) (k : Cont) (r : Return) (values : List Value) → Awaits c k r → Leads scope c.exits → AreCaptured w links scope r.kept values → Pushes links c scope k r values
   pushes links c scope k r values (awaits_lam param body kept) leads captured = record { pending = record { param = param.0; body = body; scope = scope }; leads = refl; param = refl; body = refl; inner = leads; kept = captured; catches = refl }
   pushes links c scope k r values (awaits_join j m rest meets) leads captured =
       let to = leads_to scope c.exits j.0 m rest leads meets in
@@ -139,7 +139,7 @@ module _ (cps : Cps) (p : Frames) (laid : IsLaidOut cps p) (Low : ℕ → ℕ �
       let count : suc (length x.right.live) ≡ waiting_count final.waiting = waits_count w x.links2 pushed.frames [] (Back q.pending ∷ x.left.waiting) (length x.right.frames ∷ x.right.live) waits in
       let final_count = ap (λ z. waiting_count z.waiting) there in
       let low2 : Low pushed.store.heap (length pushed.live) = g.low x.right.store.heap (suc (length x.right.live)) (let e = x.made.store.heap in omega (arith, e, heap)) (inr (omega (arith, count, final_count))) in
-      let made2 : SameMade cps w x.links2 s2 pushed = remade cps w x.links2 x.left s2 x.right pushed x.made refl refl in
+      let made2 : SameMade cps w x.links2 s2 pushed = framed_made cps w x.links2 x.left x.right frame x.made in
       let path = more_path_at p Low (going (Running (ms ++ Op.Push kept back ∷ []) last env) u) at (length (f ∷ args) * (1 + cps.shared.size)) ((1 + length args) * (1 + cps.shared.size)) (let e : suc (length args) * (1 + cps.shared.size) ≡ (1 + length args) * (1 + cps.shared.size) = ap (λ n. n * (1 + cps.shared.size)) (let z : suc (length args) ≡ 1 + length args = omega arith in z) in omega (arith, e)) (x.path (λ h le. g.low h (length u.live) (omega (arith, le, heap)) (inl (omega arith)))) in
       subst (λ z. Reaches cps p w Low z (going (Running (ms ++ Op.Push kept back ∷ []) last env) u) ((1 + length args) * (1 + cps.shared.size) + ((1 + length kept) + (1 + length bs + 0))) (w.rank t)) (sym there)
       (reaches_after cps p w Low final (going (Running (ms ++ Op.Push kept back ∷ []) last env) u) at ((1 + length args) * (1 + cps.shared.size)) ((1 + length kept) + (1 + length bs + 0)) (w.rank t) path

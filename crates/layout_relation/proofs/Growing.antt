@@ -1,13 +1,13 @@
 -- What is the same stays the same when more is tied and more frames are pushed.
-use Rattle.std.proofs.Common.{arith, ◌≡◌, ℕ, Bool, List, Some, Option, slice_get}
+use Rattle.std.proofs.Common.{[], arith, ◌≡◌, ℕ, Bool, List, Some, Option, slice_get}
 use Rattle.std.specs.List.{AllZip}
 use Rattle.t_prim.specs.Values.{Val, Store}
-use Rattle.cps_ir.specs.States.{Meant, Scope, Closure, Handler, Object, Waiting}
+use Rattle.cps_ir.specs.States.{Pending, Meant, Scope, Closure, Handler, Object, Waiting}
 use Rattle.frame_ir.specs.Values.{Value, Frame, Env, Closure as FrameClosure, Object as FrameObject}
 use Rattle.layout_relation.specs.Links.{Zipped, SameOption, neither, both, Links, Extends, SameVal, fix, char, nil, truth, symbol, string, pair, vector, closure, object, operation, builtin, escape, SameMeant, value, cell, SamePair, SameList, SameStore}
-use Rattle.layout_relation.specs.Contexts.{Catching}
+use Rattle.layout_relation.specs.Contexts.{Return, Catching}
 use Rattle.layout_relation.specs.Laid.{Sketch}
-use Rattle.layout_relation.specs.Related.{SameHandler, SameObject, HoldAll, IsCaptured, AreCaptured, SameClosure, Waits, waits_none, waits_back}
+use Rattle.layout_relation.specs.Related.{SameFrame, SameCatch, waits_bare, waits_framed, SameHandler, SameObject, HoldAll, IsCaptured, AreCaptured, SameClosure, Waits, waits_none, waits_back}
 use Rattle.layout_relation.proofs.Lists.{all_zip_more, zipped_more}
 
 module _ (old new : Links) (more : Extends old new) where
@@ -77,13 +77,21 @@ module _ (old new : Links) (more : Extends old new) where
   pub cells_grow : (xs ys : List Val) → AllZip (SameVal old) xs ys → AllZip (SameVal new) xs ys
   cells_grow xs ys h = all_zip_more (SameVal old) (SameVal new) val_grows xs ys h
 
+  abbrev frame_grows : (w : Sketch) (fs gs : List Frame) → ((i : ℕ) (f : Frame) → slice_get fs i ≡ Some f → slice_get gs i ≡ Some f) → (pending : Pending) (birth : ℕ) (r : Return) → SameFrame w old fs pending birth r → SameFrame w new gs pending birth r
+  frame_grows w fs gs there pending birth r f = record { frame = f.frame; is = there birth f.frame f.is; push = f.push; back = f.back; param = f.param; body = f.body; leads = f.leads; kept = captured_grows w pending.scope r.kept f.frame.kept f.kept }
+
+  catch_grows : (fs gs : List Frame) → ((i : ℕ) (f : Frame) → slice_get fs i ≡ Some f → slice_get gs i ≡ Some f) → (catch birth back : ℕ) → SameCatch old fs catch birth back → SameCatch new gs catch birth back
+  catch_grows fs gs there catch birth back c = record { frame = c.frame; is = there birth c.frame c.is; opened = c.opened; back_is = c.back_is; tied = more.escapes catch birth c.tied }
+
   pub waits_grow : (w : Sketch) (fs gs : List Frame) → ((i : ℕ) (f : Frame) → slice_get fs i ≡ Some f → slice_get gs i ≡ Some f)
       → (cs : List Catching) (waiting : List Waiting) (live : List ℕ) → Waits w old fs cs waiting live → Waits w new gs cs waiting live
   waits_grow w fs gs there cs waiting live waits_none = waits_none
   waits_grow w fs gs there cs waiting live (waits_back pending rest birth older r f h) =
-      waits_back pending rest birth older r
-      (record { frame = f.frame; is = there birth f.frame f.is; push = f.push; back = f.back; param = f.param; body = f.body; leads = f.leads; kept = captured_grows w pending.scope r.kept f.frame.kept f.kept })
-      (waits_grow w fs gs there r.catches rest older h)
+      waits_back pending rest birth older r (frame_grows w fs gs there pending birth r f) (waits_grow w fs gs there r.catches rest older h)
+  waits_grow w fs gs there cs waiting live (waits_bare catch rest birth older back c passes h) =
+      waits_bare catch rest birth older back (catch_grows fs gs there catch birth back c) passes (waits_grow w fs gs there [] rest older h)
+  waits_grow w fs gs there cs waiting live (waits_framed catch pending rest birth push older r f c h) =
+      waits_framed catch pending rest birth push older r (frame_grows w fs gs there pending push r f) (catch_grows fs gs there catch birth f.frame.back c) (waits_grow w fs gs there r.catches rest older h)
 
 pub extends_itself : (links : Links) → Extends links links
 extends_itself links = record { closures = λ i j h. h; escapes = λ i j h. h; objects = omega arith; cells = omega arith }

@@ -24,9 +24,9 @@ use Rattle.frame_ir.specs.Arguments.{value_of, lasting_value, values_of, kept_va
 use Rattle.frame_ir.specs.Calls.{jumped, begun, returned as returned_to}
 use Rattle.frame_ir.specs.Running.{step}
 use Rattle.layout_relation.specs.Links.{IsIn, first, later, zip_none, zip_one, Links, SameVal, SameMeant, value}
-use Rattle.layout_relation.specs.Contexts.{Context, Exits, IsUnneeded, with_var, Catching, Return, Begins, Resumes}
+use Rattle.layout_relation.specs.Contexts.{Bare, Framed, Context, Exits, IsUnneeded, with_var, Catching, Return, Begins, Resumes}
 use Rattle.layout_relation.specs.Laid.{Sketch, IsFor, variables, IsNewIn, Gives, gives_out, gives_join, gives_jump, gives_here, gives_unused, GoesOn, goes_here, goes_to, Lays, IsLaidOut}
-use Rattle.layout_relation.specs.Related.{Leads, leads_bound, HoldAll, AreCaptured, SameFrame, Waits, waits_none, waits_back, SameMade, SameDoing, same_term, same_end}
+use Rattle.layout_relation.specs.Related.{waits_bare, waits_framed, Leads, leads_bound, HoldAll, AreCaptured, SameFrame, Waits, waits_none, waits_back, SameMade, SameDoing, same_term, same_end}
 use Rattle.layout_relation.proofs.Lists.{zipped_length, in_is_not, in_none}
 use Rattle.layout_relation.proofs.Scopes.{leads_out, leads_to, other_meant, eqb_flip, eqb_same, hold_bound, hold_more}
 use Rattle.layout_relation.proofs.Paths.{Path, steps}
@@ -130,7 +130,7 @@ module _ (cps : Cps) (p : Frames) (laid : IsLaidOut cps p) (Low : ℕ → ℕ �
     pub store : (returned_to p b t).store ≡ t.store
     pub live : (returned_to p b t).live ≡ t.live
 
-  pop_step : (ops : List FrameOp) (last : FrameEnd) (env : Env) (u : FrameState) (birth : ℕ) (older : List ℕ) (f : Frame) → u.live ≡ birth ∷ older → slice_get u.frames birth ≡ Some f → f.catch ≡ false
+  pub pop_step : (ops : List FrameOp) (last : FrameEnd) (env : Env) (u : FrameState) (birth : ℕ) (older : List ℕ) (f : Frame) → u.live ≡ birth ∷ older → slice_get u.frames birth ≡ Some f → f.catch ≡ false
       → step p (going (Running (Op.Pop ∷ ops) last env) u) ≡ going (Running ops last env) (counted 1 (with_live u older))
   pop_step ops last env u birth older f live is push =
       let t = going (Running (Op.Pop ∷ ops) last env) u in
@@ -140,7 +140,7 @@ module _ (cps : Cps) (p : Frames) (laid : IsLaidOut cps p) (Low : ℕ → ℕ �
       ∙ ap (λ b. if b then wrong t else go f) push
       ∙ ap (λ l. going (Running ops last env) (counted 1 (with_live u (older_than_youngest l)))) live
 
-  back_arrives : (links : Links) (s : State) (t : FrameState) (v b : Val) (pending : Pending) (rest : List Waiting) (birth : ℕ) (older : List ℕ) (r : Return) → SameFrame w links t.frames pending birth r → Waits w links t.frames r.catches rest older
+  pub back_arrives : (links : Links) (s : State) (t : FrameState) (v b : Val) (pending : Pending) (rest : List Waiting) (birth : ℕ) (older : List ℕ) (r : Return) → SameFrame w links t.frames pending birth r → Waits w links t.frames r.catches rest older
       → t.live ≡ birth ∷ older → SameVal links v b → SameMade cps w links s t → LowBelow t → Returns (returned P (Back pending ∷ rest) v s) t b
   back_arrives links s t v b pending rest birth older r f waits live same made low =
       let blk = block_at cps p laid f.frame.back (Resumes r) f.back in
@@ -200,10 +200,19 @@ module _ (cps : Cps) (p : Frames) (laid : IsLaidOut cps p) (Low : ℕ → ℕ �
         live = ap (λ x. x.live) is;
       }
 
-  returned_by : (links : Links) (s : State) (t : FrameState) (v b : Val) (cs : List Catching) (waiting : List Waiting) (live : List ℕ) → Waits w links t.frames cs waiting live → cs ≡ [] → t.live ≡ live → SameVal links v b → SameMade cps w links s t → LowBelow t
+  pub returned_by : (links : Links) (s : State) (t : FrameState) (v b : Val) (cs : List Catching) (waiting : List Waiting) (live : List ℕ) → Waits w links t.frames cs waiting live → cs ≡ [] → t.live ≡ live → SameVal links v b → SameMade cps w links s t → LowBelow t
       → Returns (returned P waiting v s) t b
   returned_by links s t v b cs waiting live waits_none none is same made low = none_arrives links s t v b is made
   returned_by links s t v b cs waiting live (waits_back pending rest birth older r f waits) none is same made low = back_arrives links s t v b pending rest birth older r f waits is same made low
+
+  returned_by links s t v b cs waiting live (waits_bare catch rest birth older back c passes waits) none is same made low = absurd (never none)
+    where
+      never : Bare ∷ [] ≡ [] → ⊥
+      never h = cc
+  returned_by links s t v b cs waiting live (waits_framed catch pending rest birth push older r f c waits) none is same made low = absurd (never r.catches none)
+    where
+      never : (cs : List Catching) → Framed ∷ cs ≡ [] → ⊥
+      never cs h = cc
 
   pub returned_arrives : (links : Links) (s : State) (t : FrameState) (v b : Val) → Waits w links t.frames [] s.waiting t.live → SameVal links v b → SameMade cps w links s t → LowBelow t → Returns (returned P s.waiting v s) t b
   returned_arrives links s t v b waits same made low = returned_by links s t v b [] s.waiting t.live waits refl refl same made low

@@ -23,6 +23,7 @@ pub mod Bringing
 pub mod GlobalTerm
 pub mod CellTerm
 pub mod ObjectTerm
+pub mod CatchTerm
 pub mod SameMoves
 pub mod Matching
 pub mod Starting

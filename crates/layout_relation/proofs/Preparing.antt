@@ -16,7 +16,7 @@ use Rattle.frame_ir.specs.declared.forms.FrameOp.{FrameOp}
 use Rattle.frame_ir.specs.declared.forms.FrameOp.TheVariants as Op
 use Rattle.frame_ir.specs.declared.forms.FrameEnd.{FrameEnd}
 use Rattle.frame_ir.specs.declared.forms.Frames.{Frames}
-use Rattle.frame_ir.specs.Values.{Closure as FrameClosure, Env}
+use Rattle.frame_ir.specs.Values.{Frame, Closure as FrameClosure, Env}
 use Rattle.frame_ir.specs.States.{Running, State as FrameState, going}
 use Rattle.frame_ir.specs.Arguments.{lasting_values}
 use Rattle.frame_ir.specs.Groups.{Making as Planned, makings, behind, youngest_birth, addressed, made}
@@ -24,7 +24,7 @@ use Rattle.frame_ir.specs.Running.{step}
 use Rattle.layout_relation.specs.Links.{Zipped, zip_none, IsTied, Links, Extends, SameVal, SameOption, SameStore}
 use Rattle.layout_relation.specs.Laid.{Sketch, StartsApart, Prepares}
 use Rattle.layout_relation.specs.Related.{HoldAll, SameClosure, parts_of, parts_at, SameParts, SameMade}
-use Rattle.layout_relation.proofs.Lists.{zipped_more, in_left}
+use Rattle.layout_relation.proofs.Lists.{get_front, zipped_more, in_left}
 use Rattle.layout_relation.proofs.Growing.{hold_grows, closure_grows}
 use Rattle.layout_relation.proofs.Paths.{Path, stays, steps}
 use Rattle.layout_relation.proofs.Made.{ties, tied, tied_extends, tie_at, Builds, words_in, made_more, Makes, makes_none, makes_one}
@@ -55,6 +55,22 @@ behind_join cps w vars lams ms ops tos (makes_one l to code kept ls ns ts h rest
 
 pub remade : (cps : Cps) (w : Sketch) (links : Links) (s s2 : State) (t t2 : FrameState) → SameMade cps w links s t → parts_of s2 ≡ parts_of s → parts_at t2 ≡ parts_at t → SameMade cps w links s2 t2
 remade cps w links s s2 t t2 h a b = subst (λ x. SameParts cps w links x (parts_at t2)) (sym a) (subst (λ y. SameParts cps w links (parts_of s) y) (sym b) h)
+
+-- one frame more
+pub framed_made : (cps : Cps) (w : Sketch) (links : Links) (s : State) (t : FrameState) (f : Frame) → SameMade cps w links s t → SameParts cps w links (parts_of s) (record (parts_at t) { frames = t.frames ++ f ∷ [] })
+framed_made cps w links s t f h = record {
+  one = h.one;
+  store = h.store;
+  closures = h.closures;
+  globals = h.globals;
+  count = h.count;
+  procedures = h.procedures;
+  cells = h.cells;
+  objects = h.objects;
+  located = h.located;
+  objected = h.objected;
+  escapes = λ i j k. let at = h.escapes i j k in record { made = at.made; frame = at.frame; is = get_front t.frames (f ∷ []) j at.frame at.is; opened = at.opened };
+}
 
 module _ (cps : Cps) (p : Frames) (w : Sketch) (small : (l : ℕ) → length (w.needs l) ≤ cps.shared.size) (Low : ℕ → ℕ → Type 0) where
   -- so many words of heap more are low

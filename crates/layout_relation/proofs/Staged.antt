@@ -7,7 +7,7 @@ use Rattle.t_base.specs.declared.shared_parts.Shared.{Shared}
 use Rattle.t_prim.specs.Values.{Val}
 use Rattle.cps_ir.specs.declared.args.Arg.{Arg}
 use Rattle.cps_ir.specs.declared.terms.Cps.{Cps}
-use Rattle.cps_ir.specs.States.{Scope, State, marked, all_escape, Waiting, Back, count_of, broken}
+use Rattle.cps_ir.specs.States.{Live, Scope, State, marked, all_escape, Waiting, Back, count_of, broken}
 use Rattle.cps_ir.specs.Giving.{with_args}
 use Rattle.frame_ir.specs.declared.args.Arg.{Arg as FrameArg}
 use Rattle.frame_ir.specs.declared.forms.FrameOp.{FrameOp}
@@ -19,7 +19,7 @@ use Rattle.frame_ir.specs.Arguments.{lasting_value, lasting_values}
 use Rattle.layout_relation.specs.Links.{Zipped, zip_none, zip_one, Links, SameVal}
 use Rattle.layout_relation.specs.Contexts.{Context, Catching}
 use Rattle.layout_relation.specs.Laid.{Sketch, StartsApart, Prepares, IsLaidOut}
-use Rattle.layout_relation.specs.Related.{Leads, HoldAll, Waits, waits_none, waits_back, SameMade}
+use Rattle.layout_relation.specs.Related.{waits_bare, waits_framed, Leads, HoldAll, Waits, waits_none, waits_back, SameMade}
 use Rattle.layout_relation.proofs.Preparing.{Prepared, prepared}
 
 -- ---- what waits, counted
@@ -32,6 +32,15 @@ waits_count w links frames cs waiting live waits_none = refl
 waits_count w links frames cs waiting live (waits_back pending rest birth older r f h) =
     let e = waits_count w links frames r.catches rest older h in
     let d = sum_by-cons count_of (Back pending) rest in
+    omega (arith, e, d)
+
+waits_count w links frames cs waiting live (waits_bare catch rest birth older back c passes h) =
+    let e = waits_count w links frames [] rest older h in
+    let d = sum_by-cons count_of (Live catch None) rest in
+    omega (arith, e, d)
+waits_count w links frames cs waiting live (waits_framed catch pending rest birth push older r f c h) =
+    let e = waits_count w links frames r.catches rest older h in
+    let d = sum_by-cons count_of (Live catch (Some pending)) rest in
     omega (arith, e, d)
 
 -- ---- lists of values

@@ -196,7 +196,7 @@ module _ (cps : Cps) (p : Frames) (laid : IsLaidOut cps p) where
     objects = tt;
     located = omega arith;
     objected = omega arith;
-    escapes = refl;
+    escapes = λ i j h. absurd (in_none (i, j) h);
     procedures = λ g code e. let r = procedure_at gs 0 g code e in let w = r.within in (r.is, subst (λ n. IsTied links.closures n n) (let q : 0 + code ≡ code = omega arith in q) (tied_at code (omega (arith, w))));
   }
 

@@ -1,10 +1,16 @@
 -- Calls that are made or passed on, and operations that look for their default, on both sides.
-use Rattle.std.proofs.Common.{◌≡◌, ℕ, zero, suc, ◌+◌, ◌≤◌, ◌<◌, Bool, true, false, if◌then◌else◌, ◌==◌, List, [], ◌∷◌, length, map, take, filter, Option, Some, None, slice_get, refl, sym, ap, subst, ◌∙◌, arith}
+use Rattle.frame_ir.specs.declared.args.Arg.TheVariants as FrameArgument
+use Rattle.frame_ir.specs.declared.forms.FrameEnd.TheVariants as Last
+use Rattle.frame_ir.specs.declared.forms.Block.{Block}
+use Rattle.frame_ir.specs.Running.{step}
+use Rattle.layout_relation.proofs.Scopes.{eqb_same}
+use Rattle.std.specs.List.{list_any}
+use Rattle.std.proofs.Common.{◌||◌, ◌≡◌, ℕ, zero, suc, ◌+◌, ◌≤◌, ◌<◌, Bool, true, false, if◌then◌else◌, ◌==◌, List, [], ◌∷◌, length, map, take, filter, Option, Some, None, slice_get, refl, sym, ap, subst, ◌∙◌, arith}
 use Rattle.std.specs.Prelude.{count_by, option_and_then}
 use Rattle.std.specs.Option.{option_map, option_map_or}
-use Rattle.std.proofs.lemmas.Bool.{true≢false}
+use Rattle.std.proofs.lemmas.Bool.{eq-eqb, ne_eqb, eqb-true, true≢false}
 use Rattle.std.proofs.lemmas.List.Sums.{length-filter, sum_by-cons}
-use Rattle.t_base.specs.declared.faults.Fault.TheVariants.{WrongCount, NotProcedure, NotHandled}
+use Rattle.t_base.specs.declared.faults.Fault.TheVariants.{DeadEscape, WrongCount, NotProcedure, NotHandled}
 use Rattle.t_base.specs.declared.shared_parts.Global1.{Global1}
 use Rattle.t_base.specs.declared.shared_parts.GlobalKind.{GlobalKind}
 use Rattle.t_base.specs.declared.shared_parts.GlobalKind.TheVariants as Kind
@@ -14,24 +20,24 @@ use Rattle.t_prim.specs.Operands.{Row}
 use Rattle.t_prim.specs.Table.{row}
 use Rattle.cps_ir.specs.declared.terms.Cps.{Cps}
 use Rattle.cps_ir.specs.Parts.{is_proc, is_procedure, global_lams, first_lams}
-use Rattle.cps_ir.specs.States.{At, Calling, Looking, Entering, State, Program, marked, all_escape, Closure, Handler, Object, Waiting, Back, Live, going as going_to, faulted as faulted_to, with_store as store_to, with_waiting}
+use Rattle.cps_ir.specs.States.{Pending, At, Calling, Looking, Entering, State, Program, marked, all_escape, Closure, Handler, Object, Waiting, Back, Live, going as going_to, faulted as faulted_to, with_store as store_to, with_waiting}
 use Rattle.cps_ir.specs.Giving.{Way, Out, On, Lost, or_unbound, after_row as row_to, returned, given}
-use Rattle.cps_ir.specs.Calls.{entered as entered_to, called as called_to, operated as operated_to, looked as looked_to, default_at, default_of, handlers_at, defaulted as defaulted_to}
+use Rattle.cps_ir.specs.Calls.{unwound, escaped as escaped_to, entered as entered_to, called as called_to, operated as operated_to, looked as looked_to, default_at, default_of, handlers_at, defaulted as defaulted_to}
 use Rattle.frame_ir.specs.declared.forms.Frames.{Frames}
 use Rattle.frame_ir.specs.declared.forms.Template.{Template}
-use Rattle.frame_ir.specs.Values.{Value, Lasting, Object as FrameObject}
-use Rattle.frame_ir.specs.States.{Calling as CallingAt, Looking as LookingAt, Entering as EnteringAt, State as FrameState, going, faulted, or_wrong, after_row, with_store}
-use Rattle.frame_ir.specs.Arguments.{is_proc as is_proc_at, number_among, proc_count, code_of_default}
-use Rattle.frame_ir.specs.Calls.{entered, returned as returned_to, called, operated, looked, methods_of, methods_at, defaulted}
-use Rattle.layout_relation.specs.Links.{IsIn, Zipped, zip_none, zip_one, SameOption, neither, both, IsTied, Links, SameVal, fix, char, nil, truth, symbol, string, pair, vector, closure, object, operation, builtin, escape, SameRow, gives, changes, faults}
-use Rattle.layout_relation.specs.Contexts.{CodeOf, MethodOf}
+use Rattle.frame_ir.specs.Values.{lasting_of, Frame, Value, Lasting, Object as FrameObject}
+use Rattle.frame_ir.specs.States.{Running, with_live, wrong, counted, older_than, Calling as CallingAt, Looking as LookingAt, Entering as EnteringAt, State as FrameState, going, faulted, or_wrong, after_row, with_store}
+use Rattle.frame_ir.specs.Arguments.{lasting_value, bound, is_proc as is_proc_at, number_among, proc_count, code_of_default}
+use Rattle.frame_ir.specs.Calls.{jumped, begun, escaped, entered, returned as returned_to, called, operated, looked, methods_of, methods_at, defaulted}
+use Rattle.layout_relation.specs.Links.{AreOneToOne, IsIn, Zipped, zip_none, zip_one, SameOption, neither, both, IsTied, Links, SameVal, fix, char, nil, truth, symbol, string, pair, vector, closure, object, operation, builtin, escape, SameRow, gives, changes, faults}
+use Rattle.layout_relation.specs.Contexts.{Catching, Return, PassesOn, CodeOf, MethodOf}
 use Rattle.layout_relation.specs.Laid.{Sketch, IsFor, IsLaidOut}
-use Rattle.layout_relation.specs.Related.{AreCaptured, SameHandler, SameObject, IsObjectFirst, Handles, handles_none, handles, Waits, SameMade, same_call, same_look, same_entry, same_method, Related}
+use Rattle.layout_relation.specs.Related.{SameFrame, SameCatch, waits_none, waits_back, waits_bare, waits_framed, AreCaptured, SameHandler, SameObject, IsObjectFirst, Handles, handles_none, handles, Waits, SameMade, same_call, same_look, same_entry, same_method, Related}
 use Rattle.layout_relation.proofs.Lists.{in_none, zip_get, some_at}
 use Rattle.layout_relation.proofs.Rows.{row_same}
 use Rattle.layout_relation.proofs.Preparing.{remade}
-use Rattle.layout_relation.proofs.Arriving.{Arrives, arrives_more}
-use Rattle.layout_relation.proofs.Handing.{LowBelow, bound_to, return_moves, Returns, returned_arrives}
+use Rattle.layout_relation.proofs.Arriving.{block_at, Arrives, arrives_more}
+use Rattle.layout_relation.proofs.Handing.{returned_by, back_arrives, return_reaches, LowBelow, bound_to, return_moves, Returns, returned_arrives}
 use Rattle.layout_relation.proofs.Calling.{Stands, entry_moves, fault_stands, needs_none, in_record, entry_stands, method_stands}
 
 -- ---- defaults
@@ -246,11 +252,120 @@ module _ (cps : Cps) (p : Frames) (laid : IsLaidOut cps p) (Low : ℕ → ℕ �
       comes_by (called_to P (ObjectV i) xs s) s2 t (called p (ObjectV i) ys t) t2 (entry_moves cps p laid Low) (ap (λ z. or_unbound z s (λ object. going_to (Calling object.procedure xs) s)) e) (ap (λ z. or_wrong z t (λ object. going (CallingAt (Lasting object.procedure) ys) t)) f)
       (record { arrives = c.arrives; moves = c.moves; low = c.low })
 
+  tied_same : (links : Links) (a x b y : ℕ) → AreOneToOne links → IsTied links.escapes a x → IsTied links.escapes b y → a ≡ b → x ≡ y
+  tied_same links a x b y one h k e = eqb-true x y (sym (one.escapes a x b y h k) ∙ eq-eqb a b e)
+
+  older_fewer : (b : ℕ) (live : List ℕ) → length (older_than b live) ≤ length live
+  older_fewer b [] = omega arith
+  older_fewer b (x ∷ live) = by (x == b) (older_fewer b live)
+    where
+      by : (y : Bool) → length (older_than b live) ≤ length live → length (if y then live else older_than b live) ≤ suc (length live)
+      by true h = omega arith
+      by false h = omega (arith, h)
+
+  -- what waits behind a live catch
+  pub data Behind (links : Links) (frames : List Frame) (i b : ℕ) : Option (List Waiting) → Bool → List ℕ → Type 0 where
+    -- it is dead
+    behind_none : (older : List ℕ) → Behind links frames i b None false older
+    behind_bare : (waiting : List Waiting) (older : List ℕ) (back : ℕ) → SameCatch links frames i b back → IsFor w back PassesOn → Waits w links frames [] waiting older → Behind links frames i b (Some waiting) true older
+    behind_framed : (pending : Pending) (waiting : List Waiting) (push : ℕ) (older : List ℕ) (r : Return) (f : SameFrame w links frames pending push r) → SameCatch links frames i b f.frame.back → Waits w links frames r.catches waiting older
+        → Behind links frames i b (Some (Back pending ∷ waiting)) true (push ∷ older)
+
+  same_opened : (f g : Frame) (o : Option Frame) → o ≡ Some f → o ≡ Some g → f ≡ g
+  same_opened f g o e h = same (sym e ∙ h)
+    where
+      same : Some f ≡ Some g → f ≡ g
+      same h = cc
+
+  -- the frame of a Push isn't that of a CATCH
+  push_other : (frames : List Frame) (push b : ℕ) (f g : Frame) → slice_get frames push ≡ Some f → f.catch ≡ false → slice_get frames b ≡ Some g → g.catch ≡ true → (push == b) ≡ false
+  push_other frames push b f g e closed h opened =
+      ne_eqb push b (λ (q : push ≡ b). true≢false (sym opened ∙ ap (λ z. z.catch) (same_opened g f (slice_get frames b) h (ap (slice_get frames) (sym q) ∙ e)) ∙ closed))
+
+  -- an escape on both sides
+  behind_catch : (links : Links) (frames : List Frame) (i b : ℕ) (cs : List Catching) (waiting : List Waiting) (live : List ℕ) → IsTied links.escapes i b → AreOneToOne links → (g : Frame) → slice_get frames b ≡ Some g → g.catch ≡ true → Waits w links frames cs waiting live
+      → Behind links frames i b (unwound i waiting) (list_any (λ z. z == b) live) (older_than b live)
+  behind_catch links frames i b cs waiting live tie one g is opened waits_none = behind_none []
+  behind_catch links frames i b cs waiting live tie one g is opened (waits_back pending rest birth older r f h) =
+      let other = push_other frames birth b f.frame g f.is f.push is opened in
+      subst (λ z. Behind links frames i b (unwound i rest) (z || list_any (λ z. z == b) older) (if z then older else older_than b older)) (sym other) (behind_catch links frames i b r.catches rest older tie one g is opened h)
+  behind_catch links frames i b cs waiting live tie one g is opened (waits_bare catch rest birth older back c passes h) =
+      by (catch == i) (birth == b) (one.escapes catch birth i b c.tied tie) refl (behind_catch links frames i b [] rest older tie one g is opened h)
+    where
+      by : (x y : Bool) → x ≡ y → (catch == i) ≡ x → Behind links frames i b (unwound i rest) (list_any (λ z. z == b) older) (older_than b older)
+          → Behind links frames i b (if x then Some rest else unwound i rest) (y || list_any (λ z. z == b) older) (if y then older else older_than b older)
+      by true y e q rec =
+          let same_i : catch ≡ i = eqb-true catch i q in
+          let same_b : birth ≡ b = tied_same links catch birth i b one c.tied tie same_i in
+          subst (λ y. Behind links frames i b (Some rest) (y || list_any (λ z. z == b) older) (if y then older else older_than b older)) e
+          (behind_bare rest older back (subst (λ n. SameCatch links frames n b back) same_i (subst (λ n. SameCatch links frames catch n back) same_b c)) passes h)
+      by false y e q rec = subst (λ y. Behind links frames i b (unwound i rest) (y || list_any (λ z. z == b) older) (if y then older else older_than b older)) e rec
+  behind_catch links frames i b cs waiting live tie one g is opened (waits_framed catch pending rest birth push older r f c h) =
+      let other = push_other frames push b f.frame g f.is f.push is opened in
+      by (catch == i) (birth == b) (one.escapes catch birth i b c.tied tie) refl
+      (subst (λ z. Behind links frames i b (unwound i rest) (z || list_any (λ z. z == b) older) (if z then older else older_than b older)) (sym other) (behind_catch links frames i b r.catches rest older tie one g is opened h))
+    where
+      by : (x y : Bool) → x ≡ y → (catch == i) ≡ x → Behind links frames i b (unwound i rest) (list_any (λ z. z == b) (push ∷ older)) (older_than b (push ∷ older))
+          → Behind links frames i b (if x then Some (Back pending ∷ rest) else unwound i rest) (y || list_any (λ z. z == b) (push ∷ older)) (if y then push ∷ older else older_than b (push ∷ older))
+      by true y e q rec =
+          let same_i : catch ≡ i = eqb-true catch i q in
+          let same_b : birth ≡ b = tied_same links catch birth i b one c.tied tie same_i in
+          subst (λ y. Behind links frames i b (Some (Back pending ∷ rest)) (y || list_any (λ z. z == b) (push ∷ older)) (if y then push ∷ older else older_than b (push ∷ older))) e
+          (behind_framed pending rest push older r f (subst (λ n. SameCatch links frames n b f.frame.back) same_i (subst (λ n. SameCatch links frames catch n f.frame.back) same_b c)) h)
+      by false y e q rec = subst (λ y. Behind links frames i b (unwound i rest) (y || list_any (λ z. z == b) (push ∷ older)) (if y then push ∷ older else older_than b (push ∷ older))) e rec
+
+  -- the value of an escape that was found
+  found_comes : (links : Links) (s : State) (t : FrameState) (i b : ℕ) (v u : Val) (o : Option (List Waiting)) (alive : Bool) (live : List ℕ) → Behind links t.frames i b o alive live → SameVal links v u → SameMade cps w links s t → LowBelow cps p laid Low t → length live ≤ length t.live
+      → older_than b t.live ≡ live → Comes (escaped_to P o v s) t (if alive then escaped p b u t else faulted DeadEscape t) (entry_moves cps p laid Low)
+  found_comes links s t i b v u o alive live (behind_none older) same made low fewer is = stands_come (faulted_to DeadEscape s) t (faulted DeadEscape t) 0 (entry_moves cps p laid Low) (omega arith) low (fault_stands cps p laid Low links s t DeadEscape 0 made)
+  found_comes links s t i b v u o alive live (behind_bare waiting older back c passes h) same made low fewer is =
+      let blk = block_at cps p laid back PassesOn passes in
+      let x = blk.fits.value in
+      let t2 = with_live t older in
+      let y = going (Running [] (Last.Return (FrameArgument.Var x)) ((x.0, Lasting u) ∷ [])) t2 in
+      let begins : Block → FrameState = λ b2. if length b2.params == 1 then begun b2 (bound b2.params (Lasting u ∷ [])) t2 else wrong t2 in
+      let goes : escaped p b u t ≡ y =
+          ap (λ o. or_wrong o t (λ f. jumped p f.back (Lasting u ∷ []) (with_live t (older_than b t.live)))) c.is
+          ∙ ap (λ l. jumped p c.frame.back (Lasting u ∷ []) (with_live t l)) is
+          ∙ ap (λ n. jumped p n (Lasting u ∷ []) t2) c.back_is
+          ∙ ap (λ o. or_wrong o t2 begins) blk.is
+          ∙ ap (λ ps. if length ps == 1 then going (Running blk.block.ops.items blk.block.last (bound ps (Lasting u ∷ []))) t2 else wrong t2) blk.fits.takes
+          ∙ ap (λ os. going (Running os blk.block.last ((x.0, Lasting u) ∷ [])) t2) blk.fits.ops
+          ∙ ap (λ l. going (Running [] l ((x.0, Lasting u) ∷ [])) t2) blk.fits.goes in
+      let low2 : LowBelow cps p laid Low (counted 2 y) = λ n le. low n (omega (arith, le, fewer)) in
+      let reads : lasting_value p.shared ((x.0, Lasting u) ∷ []) (FrameArgument.Var x) ≡ Some u = ap (λ z. option_and_then lasting_of (if z then Some (Lasting u) else None)) (eqb_same x.0) in
+      let one : step p y ≡ returned_to p u (counted 2 y) = ap (λ o. or_wrong o y (λ v. returned_to p v (counted 2 y))) reads in
+      let back = returned_by cps p laid Low links s (counted 2 y) v u [] waiting older h refl refl same made low2 in
+      let final = returned P waiting v s in
+      let arrives = arrives_more cps p w Low final y (2 + return_moves cps p laid Low) (entry_moves cps p laid Low) (omega arith) (return_reaches cps p laid Low final y (counted 2 y) u 2 0 one (omega arith) low2 back).arrives in
+      comes_by final final t (escaped p b u t) y (entry_moves cps p laid Low) refl goes (record { arrives = arrives; moves = refl; low = low2 (length older) (omega arith) })
+  found_comes links s t i b v u o alive live (behind_framed pending waiting push older r f c h) same made low fewer is =
+      let t2 = with_live t (push ∷ older) in
+      let low2 : LowBelow cps p laid Low t2 = λ n le. low n (omega (arith, le, fewer)) in
+      let go : Frame → FrameState = λ f. jumped p f.back (Lasting u ∷ []) t2 in
+      let goes : escaped p b u t ≡ go f.frame =
+          ap (λ o. or_wrong o t (λ f. jumped p f.back (Lasting u ∷ []) (with_live t (older_than b t.live)))) c.is
+          ∙ ap (λ l. jumped p c.frame.back (Lasting u ∷ []) (with_live t l)) is
+          ∙ ap (λ n. jumped p n (Lasting u ∷ []) t2) c.back_is in
+      let back_to : returned_to p u t2 ≡ go f.frame = ap (λ o. or_wrong o t2 (λ f. if f.catch then wrong t2 else go f)) f.is ∙ ap (λ z. if z then wrong t2 else go f.frame) f.push in
+      let final = returned P (Back pending ∷ waiting) v s in
+      let back = back_arrives cps p laid Low links s t2 v u pending waiting push older r f h refl same made low2 in
+      let c2 = returns_come final t2 u (entry_moves cps p laid Low) (omega arith) low2 back in
+      comes_by final final t (escaped p b u t) (returned_to p u t2) (entry_moves cps p laid Low) refl (goes ∙ sym back_to) (record { arrives = c2.arrives; moves = c2.moves; low = c2.low })
+
+  escape_comes : (links : Links) (s : State) (t : FrameState) (i j : ℕ) (xs ys : List Val) → IsTied links.escapes i j → Zipped (SameVal links) xs ys → Waits w links t.frames [] s.waiting t.live → SameMade cps w links s t → LowBelow cps p laid Low t
+      → Comes (called_to P (EscapeV i) xs s) t (called p (EscapeV j) ys t) (entry_moves cps p laid Low)
+  escape_comes links s t i j xs ys tie zip_none waits made low = stands_come (faulted_to WrongCount s) t (faulted WrongCount t) 0 (entry_moves cps p laid Low) (omega arith) low (fault_stands cps p laid Low links s t WrongCount 0 made)
+  escape_comes links s t i j xs ys tie (zip_one v u vs us h (zip_one v2 u2 vs2 us2 h2 rest)) waits made low = stands_come (faulted_to WrongCount s) t (faulted WrongCount t) 0 (entry_moves cps p laid Low) (omega arith) low (fault_stands cps p laid Low links s t WrongCount 0 made)
+  escape_comes links s t i j xs ys tie (zip_one v u vs us h zip_none) waits made low =
+      let at = made.escapes i j tie in
+      found_comes links s t i j v u (unwound i s.waiting) (list_any (λ z. z == j) t.live) (older_than j t.live) (behind_catch links t.frames i j [] s.waiting t.live tie made.one at.frame at.is at.opened waits) h made low (older_fewer j t.live) refl
+
   pub called_comes : (links : Links) (s : State) (t : FrameState) (f g : Val) (xs ys : List Val) → SameVal links f g → Zipped (SameVal links) xs ys → Waits w links t.frames [] s.waiting t.live → SameMade cps w links s t → LowBelow cps p laid Low t
       → ((st : Store) (n : ℕ) → st.heap ≤ (called_to P f xs s).store.heap → n ≤ length t.live → Low st.heap n) → Comes (called_to P f xs s) t (called p g ys t) (entry_moves cps p laid Low)
   called_comes links s t f g xs ys (closure i j h) same waits made low lows = closure_comes links s t i j xs ys h same waits made low
   called_comes links s t f g xs ys (object i lt) same waits made low lows = object_comes links s t i xs ys lt (slice_get s.objects i) (slice_get t.objects i) refl refl (zip_get (SameObject w links) s.objects t.objects i made.objects) same waits made low
-  called_comes links s t f g xs ys (escape i j h) same waits made low lows = absurd (in_none (i, j) (subst (λ xs. IsIn (i, j) xs) made.escapes h))
+  called_comes links s t f g xs ys (escape i j h) same waits made low lows = escape_comes links s t i j xs ys h same waits made low
   called_comes links s t f g xs ys (operation o) same waits made low lows = operation_comes links s t o xs ys same waits made low
   called_comes links s t f g xs ys (builtin b) same waits made low lows = row_comes links s t (row b xs s.store) (row b ys t.store) (row_same links made.one b xs ys s.store t.store same made.store) waits made low lows
   called_comes links s t f g xs ys (fix z) same waits made low lows = no_procedure links s t made low

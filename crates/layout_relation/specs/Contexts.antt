@@ -93,5 +93,7 @@ pub data Purpose : Type 0 where
   MethodOf : (lam : ℕ) (kept : List ℕ) → Purpose
   -- an arm of an If, which sees what is seen at its end
   ArmOf : (context : Context) (term : ℕ) → Purpose
+  -- the block of a CATCH in a tail place, which returns the value
+  PassesOn : Purpose
   -- the block to which a call returns
   Resumes : (return : Return) → Purpose

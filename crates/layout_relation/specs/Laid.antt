@@ -31,7 +31,7 @@ use Rattle.frame_ir.specs.declared.forms.Frames.{Frames}
 use Rattle.frame_ir.specs.Arguments.{code_of_global}
 use Rattle.frame_ir.specs.Calls.{methods_of}
 use Rattle.layout_relation.specs.Links.{IsIn, Zipped}
-use Rattle.layout_relation.specs.Contexts.{Meeting, Exits, NoExit, OwnExit, JoinExit, Leaves, Meets, exit_of, IsUnneeded, Context, IsFresh, IsUnused, with_var, paired, Start, Return, Purpose, CodeOf, MethodOf, Begins, ArmOf, Resumes}
+use Rattle.layout_relation.specs.Contexts.{Catching, Bare, Framed, PassesOn, Meeting, Exits, NoExit, OwnExit, JoinExit, Leaves, Meets, exit_of, IsUnneeded, Context, IsFresh, IsUnused, with_var, paired, Start, Return, Purpose, CodeOf, MethodOf, Begins, ArmOf, Resumes}
 
 -- ---- the whole layout
 
@@ -222,6 +222,19 @@ mutual
         → Prepares cps w c.vars (proc ∷ []) made (b ∷ []) → (length names == length methods) ≡ true → slice_get w.templates template ≡ Some shape
         → Zipped (IsMethod w needs) (zip names methods) (methods_of shape.ops shape.codes) → AreHeld c.vars needs kept → length needs ≤ cps.shared.size → IsUnused c.vars to.0 → Gives cps w c t k (FrameArgument.Var to) ops last
         → LaysTerm cps w c t (Node.Object proc names methods k) (made ++ Op.Object to template b kept ∷ ops) last
+    -- a CATCH in a tail place has no Push; another one has that of its continuation, and both have the same return block
+    lays_tail_catch : (c : Context) (t : ℕ) (x : Var) (body : ℕ) (k to : Var) (back : ℕ) (ops : List FrameOp) (last : FrameEnd) → exit_of c.exits k.0 ≡ Leaves → c.catches ≡ [] → IsFor w back PassesOn
+        → IsFresh c x.0 → w.celled x.0 ≡ false → IsUnused c.vars to.0 → GoesOn cps w (record c { vars = (x.0, to.0) ∷ c.vars; catches = Bare ∷ [] }) body ops last
+        → LaysTerm cps w c t (Node.Catch x body (Continuation.Var k)) (Op.CatchOpen to back ∷ ops) last
+    lays_catch : (c : Context) (t : ℕ) (x : Var) (body : ℕ) (k : Cont) (return : Return) (kept : List Var) (to : Var) (back : ℕ) (ops : List FrameOp) (last : FrameEnd) → Awaits c k return → IsFor w back (Resumes return) → AreHeld c.vars return.kept kept
+        → IsFresh c x.0 → w.celled x.0 ≡ false → IsUnused c.vars to.0 → GoesOn cps w (record c { vars = (x.0, to.0) ∷ c.vars; catches = Framed ∷ c.catches }) body ops last
+        → LaysTerm cps w c t (Node.Catch x body k) (Op.Push kept back ∷ Op.CatchOpen to back ∷ ops) last
+    lays_tail_uncatch : (c : Context) (t : ℕ) (k : Cont) (value : Arg) (outer : List Catching) (made : List FrameOp) (b : FrameArg) (ops : List FrameOp) (last : FrameEnd) → c.catches ≡ Bare ∷ outer → Prepares cps w c.vars (value ∷ []) made (b ∷ [])
+        → Gives cps w (record c { catches = outer }) t k b ops last
+        → LaysTerm cps w c t (Node.Uncatch k value) (made ++ Op.CatchClose ∷ ops) last
+    lays_uncatch : (c : Context) (t : ℕ) (k : Cont) (value : Arg) (outer : List Catching) (made : List FrameOp) (b : FrameArg) (ops : List FrameOp) (last : FrameEnd) → c.catches ≡ Framed ∷ outer → Prepares cps w c.vars (value ∷ []) made (b ∷ [])
+        → Gives cps w (record c { catches = outer }) t k b ops last
+        → LaysTerm cps w c t (Node.Uncatch k value) (made ++ Op.CatchClose ∷ Op.Pop ∷ ops) last
     lays_halt : (c : Context) (t : ℕ) (value : Arg) (made : List FrameOp) (b : FrameArg) → Prepares cps w c.vars (value ∷ []) made (b ∷ [])
         → LaysTerm cps w c t (Node.Halt value) made (Last.Halt b)
 
@@ -292,11 +305,19 @@ pub record MethodFits (cps : Cps) (w : Sketch) (l : ℕ) (kept : List ℕ) (b : 
   pub once : AreDistinct (numbers lam.params)
   pub apart : AllByRecursion (λ x. (is_in kept x ≡ false) × (w.celled x ≡ false)) (numbers lam.params)
 
+-- the block of a CATCH in a tail place
+pub record PassingFits (b : Block) : Type 0 where
+  pub value : Var
+  pub takes : b.params ≡ value ∷ []
+  pub ops : b.ops.items ≡ []
+  pub goes : b.last ≡ Last.Return (FrameArgument.Var value)
+
 abbrev pub BlockFits : Cps → Sketch → Purpose → Block → Type 0
 BlockFits cps w (CodeOf l) b = CodeFits cps w l b
 BlockFits cps w (MethodOf l kept) b = MethodFits cps w l kept b
 BlockFits cps w (Begins start) b = BeginFits cps w start b
 BlockFits cps w (ArmOf c t) b = ArmFits cps w c t b
+BlockFits cps w PassesOn b = PassingFits b
 BlockFits cps w (Resumes r) b = ReturnFits cps w r b
 
 -- ---- the whole

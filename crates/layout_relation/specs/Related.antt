@@ -1,12 +1,12 @@
 -- Where a run of a program and a run of its frames stand alike: things by identity and address, records that never change, and what waits
 -- against the live frames.
-use Rattle.std.specs.Prelude.{◌≡◌, ℕ, ◌≤◌, false, List, [], ◌∷◌, length, map, Option, Some, slice_get}
+use Rattle.std.specs.Prelude.{◌<◌, true, None, ◌≡◌, ℕ, ◌≤◌, false, List, [], ◌∷◌, length, map, Option, Some, slice_get}
 use Rattle.std.specs.Option.{option_map}
 use Rattle.std.specs.List.{AllZip}
 use Rattle.program_runs.specs.Runs.{End}
 use Rattle.t_prim.specs.Values.{Val, ClosureV, ObjectV, Store}
 use Rattle.cps_ir.specs.declared.terms.Cps.{Cps}
-use Rattle.cps_ir.specs.States.{Meant, Bound, Joined, Begun, Scope, Closure, Handler, Object, Pending, Waiting, Back, Control, At, Calling, Looking, Entering, Ended, State}
+use Rattle.cps_ir.specs.States.{Live, Meant, Bound, Joined, Begun, Scope, Closure, Handler, Object, Pending, Waiting, Back, Control, At, Calling, Looking, Entering, Ended, State}
 use Rattle.cps_ir.specs.Giving.{meant_by}
 use Rattle.frame_ir.specs.declared.forms.FrameOp.{FrameOp}
 use Rattle.frame_ir.specs.declared.forms.FrameEnd.{FrameEnd}
@@ -15,7 +15,7 @@ use Rattle.frame_ir.specs.States.{Doing, Running, Calling as CallingAt, Looking 
 use Rattle.frame_ir.specs.Arguments.{code_of_global}
 use Rattle.frame_ir.specs.Calls.{methods_of}
 use Rattle.layout_relation.specs.Links.{IsIn, Zipped, SameOption, IsTied, Links, AreOneToOne, SameVal, SameMeant, SameStore}
-use Rattle.layout_relation.specs.Contexts.{Meeting, Exits, NoExit, OwnExit, JoinExit, IsUnneeded, Context, Catching, Return, CodeOf, MethodOf, Resumes}
+use Rattle.layout_relation.specs.Contexts.{Bare, Framed, PassesOn, Meeting, Exits, NoExit, OwnExit, JoinExit, IsUnneeded, Context, Catching, Return, CodeOf, MethodOf, Resumes}
 use Rattle.layout_relation.specs.Laid.{Sketch, IsFor, Lays}
 
 -- ---- scopes
@@ -74,11 +74,23 @@ pub record SameFrame (w : Sketch) (links : Links) (frames : List Frame) (pending
   pub leads : Leads pending.scope r.exits
   pub kept : AreCaptured w links pending.scope r.kept frame.kept
 
+-- a catch, and its frame, which leads to this block
+pub record SameCatch (links : Links) (frames : List Frame) (catch birth back : ℕ) : Type 0 where
+  pub frame : Frame
+  pub is : slice_get frames birth ≡ Some frame
+  pub opened : frame.catch ≡ true
+  pub back_is : frame.back ≡ back
+  pub tied : IsTied links.escapes catch birth
+
 -- under the open CATCHes of the running procedure, item by item
 pub data Waits (w : Sketch) (links : Links) (frames : List Frame) : List Catching → List Waiting → List ℕ → Type 0 where
   waits_none : Waits w links frames [] [] []
   waits_back : (pending : Pending) (waiting : List Waiting) (birth : ℕ) (older : List ℕ) (r : Return) → SameFrame w links frames pending birth r → Waits w links frames r.catches waiting older
       → Waits w links frames [] (Back pending ∷ waiting) (birth ∷ older)
+  waits_bare : (catch : ℕ) (waiting : List Waiting) (birth : ℕ) (older : List ℕ) (back : ℕ) → SameCatch links frames catch birth back → IsFor w back PassesOn → Waits w links frames [] waiting older
+      → Waits w links frames (Bare ∷ []) (Live catch None ∷ waiting) (birth ∷ older)
+  waits_framed : (catch : ℕ) (pending : Pending) (waiting : List Waiting) (birth push : ℕ) (older : List ℕ) (r : Return) (f : SameFrame w links frames pending push r) → SameCatch links frames catch birth f.frame.back → Waits w links frames r.catches waiting older
+      → Waits w links frames (Framed ∷ r.catches) (Live catch (Some pending) ∷ waiting) (birth ∷ push ∷ older)
 
 -- ---- objects
 
@@ -104,9 +116,10 @@ pub record Parts : Type 0 where
   pub globals : List (Option Val)
   pub locations : List Val
   pub objects : List Object
+  pub catches : ℕ
 
 abbrev pub parts_of : State → Parts
-parts_of s = record { store = s.store; closures = s.closures; globals = s.globals; locations = s.locations; objects = s.objects }
+parts_of s = record { store = s.store; closures = s.closures; globals = s.globals; locations = s.locations; objects = s.objects; catches = s.catches }
 
 pub record FrameParts : Type 0 where
   pub store : Store
@@ -114,9 +127,17 @@ pub record FrameParts : Type 0 where
   pub globals : List (Option Val)
   pub cells : List Val
   pub objects : List FrameObject
+  pub frames : List Frame
 
 abbrev pub parts_at : FrameState → FrameParts
-parts_at t = record { store = t.store; closures = t.closures; globals = t.globals; cells = t.cells; objects = t.objects }
+parts_at t = record { store = t.store; closures = t.closures; globals = t.globals; cells = t.cells; objects = t.objects; frames = t.frames }
+
+-- an escape, and the frame of its CATCH
+pub record EscapeAt (catches : ℕ) (frames : List Frame) (i j : ℕ) : Type 0 where
+  pub made : i < catches
+  pub frame : Frame
+  pub is : slice_get frames j ≡ Some frame
+  pub opened : frame.catch ≡ true
 
 pub record SameParts (cps : Cps) (w : Sketch) (links : Links) (s : Parts) (t : FrameParts) : Type 0 where
   pub one : AreOneToOne links
@@ -130,8 +151,7 @@ pub record SameParts (cps : Cps) (w : Sketch) (links : Links) (s : Parts) (t : F
   pub objects : AllZip (SameObject w links) s.objects t.objects
   pub located : links.cells ≤ length s.locations
   pub objected : links.objects ≤ length s.objects
-  -- no term that is laid out so far makes an escape
-  pub escapes : links.escapes ≡ []
+  pub escapes : (i j : ℕ) → IsTied links.escapes i j → EscapeAt s.catches t.frames i j
 
 abbrev pub SameMade : Cps → Sketch → Links → State → FrameState → Type 0
 SameMade cps w links s t = SameParts cps w links (parts_of s) (parts_at t)
