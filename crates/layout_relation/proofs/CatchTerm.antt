@@ -64,7 +64,7 @@ module _ (cps : Cps) (p : Frames) (laid : IsLaidOut cps p) (Low : ℕ → ℕ �
       let st = store_grows links new more s.store u.store made.store in
       let below : (a b : ℕ) → IsTied links.escapes a b → (a < s.catches) × (b < length u.frames) = λ a b h. let at = made.escapes a b h in (at.made, slice_get_within u.frames b at.frame at.is) in
       record {
-        one = record { closures = made.one.closures; escapes = still_one (0 ∷ []) links.escapes s.catches (length u.frames) below made.one.escapes };
+        one = record { closures = made.one.closures; escapes = still_one {X = ℕ} (0 ∷ []) links.escapes s.catches (length u.frames) below made.one.escapes };
         store = record { names = st.names; strings = st.strings; pairs = st.pairs; vectors = st.vectors; output = st.output; heap = let low = st.heap in omega (arith, low) };
         closures = λ i j h. let at = made.closures i j h in record { left = at.left; right = at.right; is = at.is; at = at.at; same = closure_grows links new more w at.left at.right at.same };
         globals = globals_grow links new more s.globals u.globals made.globals;

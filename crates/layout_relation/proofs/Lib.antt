@@ -24,6 +24,7 @@ pub mod GlobalTerm
 pub mod CellTerm
 pub mod ObjectTerm
 pub mod CatchTerm
+pub mod UncatchTerm
 pub mod SameMoves
 pub mod Matching
 pub mod Starting

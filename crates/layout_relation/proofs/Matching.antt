@@ -1,4 +1,6 @@
 -- Each step of the program is matched by the frames.
+use Rattle.layout_relation.proofs.UncatchTerm.{bare_reaches, framed_reaches}
+use Rattle.layout_relation.proofs.CatchTerm.{tail_catch_reaches, catch_reaches}
 use Rattle.std.proofs.Common.{◌≡◌, ℕ, suc, ◌+◌, ◌*◌, ◌≤◌, ◌⊎◌, List, [], ◌∷◌, length, map, Some, None, refl, sym, ap, subst, ◌∙◌, arith, inl, inr, ⊎_elim, mul-le-mul_left}
 use Rattle.program_runs.specs.Runs.{End}
 use Rattle.program_runs.specs.Follows.{Alike, after, Machine, Matched, Simulates}
@@ -22,7 +24,7 @@ use Rattle.frame_ir.specs.Calls.{called, looked, entered}
 use Rattle.frame_ir.specs.Running.{step, advance}
 use Rattle.layout_relation.specs.Links.{Links}
 use Rattle.layout_relation.specs.Contexts.{Context, Resumes}
-use Rattle.layout_relation.specs.Laid.{Sketch, Prepares, prepares_none, prepares_same, prepares_closure, Lays, lays, LaysTerm, lays_tail_call, lays_call, lays_prim, lays_if, lays_labels, lays_join, lays_give, lays_global_get, lays_global_init, lays_global_set, lays_cell, lays_cell_get, lays_cell_set, lays_object, lays_halt, IsLaidOut}
+use Rattle.layout_relation.specs.Laid.{lays_tail_catch, lays_catch, lays_tail_uncatch, lays_uncatch, Sketch, Prepares, prepares_none, prepares_same, prepares_closure, Lays, lays, LaysTerm, lays_tail_call, lays_call, lays_prim, lays_if, lays_labels, lays_join, lays_give, lays_global_get, lays_global_init, lays_global_set, lays_cell, lays_cell_get, lays_cell_set, lays_object, lays_halt, IsLaidOut}
 use Rattle.layout_relation.specs.Related.{Leads, HoldAll, Waits, SameMade, SameDoing, same_term, same_call, same_look, same_method, same_entry, same_end, Related}
 use Rattle.layout_relation.specs.Laws.{moves_for}
 use Rattle.layout_relation.proofs.Lists.{zipped_length}
@@ -32,7 +34,7 @@ use Rattle.layout_relation.proofs.Handing.{LowBelow, rank_of, Reaches, reaches_s
 use Rattle.layout_relation.proofs.Staged.{waiting_count, waits_count, Staged}
 use Rattle.layout_relation.proofs.Calling.{entry_moves}
 use Rattle.layout_relation.proofs.Stepping.{Comes, called_comes, looked_comes, method_comes, entering_comes}
-use Rattle.layout_relation.proofs.SameMoves.{call_moves, prim_moves, if_moves, labels_moves, give_moves_same, global_get_moves, global_init_moves, global_set_moves, cell_moves, cell_get_moves, cell_set_moves, object_moves, halt_moves, called_moves, looked_moves, entered_moves}
+use Rattle.layout_relation.proofs.SameMoves.{catch_moves, uncatch_moves, call_moves, prim_moves, if_moves, labels_moves, give_moves_same, global_get_moves, global_init_moves, global_set_moves, cell_moves, cell_get_moves, cell_set_moves, object_moves, halt_moves, called_moves, looked_moves, entered_moves}
 use Rattle.layout_relation.proofs.HaltTerm.{halt_reaches}
 use Rattle.layout_relation.proofs.CellTerm.{cell_reaches, cell_get_reaches, cell_set_reaches}
 use Rattle.layout_relation.proofs.ObjectTerm.{object_reaches}
@@ -134,6 +136,14 @@ module _ (cps : Cps) (p : Frames) (laid : IsLaidOut cps p) where
       (_, cell_set_reaches cps p laid LowOf c2 t2 scope env s u x y value k ms z ops2 last2 prep there celled gives st, omega arith, cell_set_moves P s.moves scope x value k s refl)
   does LowOf c t scope term ops last env s u (lays_object c2 t2 proc names methods k ms x template shape needs kept to ops2 last2 prep count is_shape are_methods held small unused gives) st =
       (_, object_reaches cps p laid LowOf c2 t2 scope env s u proc names methods k ms x template shape needs kept to ops2 last2 prep count is_shape are_methods held small unused gives st, (let h = zipped_length _ _ _ held in omega (arith, h, small)), object_moves P s.moves scope proc names methods k s refl)
+  does LowOf c t scope term ops last env s u (lays_tail_catch c2 t2 x body k to back ops2 last2 out none passes fresh plain unused onward) st =
+      (_, tail_catch_reaches cps p laid LowOf c2 t2 scope env s u x body k to back ops2 last2 out none passes fresh plain unused onward st, omega arith, catch_moves P s.moves scope x body (Continuation.Var k) s refl)
+  does LowOf c t scope term ops last env s u (lays_catch c2 t2 x body k r kept to back ops2 last2 awaits for held fresh plain unused onward) st =
+      (_, catch_reaches cps p laid LowOf c2 t2 scope env s u x body k r kept to back ops2 last2 awaits for held fresh plain unused onward st, (let n = (block_at cps p laid back (Resumes r) for).fits.small in let h = zipped_length _ _ _ held in omega (arith, n, h)), catch_moves P s.moves scope x body k s refl)
+  does LowOf c t scope term ops last env s u (lays_tail_uncatch c2 t2 k value outer ms y ops2 last2 open_ prep gives) st =
+      (_, bare_reaches cps p laid LowOf c2 t2 scope env s u k value outer ms y ops2 last2 open_ prep gives st, omega arith, uncatch_moves P s.moves scope k value s refl)
+  does LowOf c t scope term ops last env s u (lays_uncatch c2 t2 k value outer ms y ops2 last2 open_ prep gives) st =
+      (_, framed_reaches cps p laid LowOf c2 t2 scope env s u k value outer ms y ops2 last2 open_ prep gives st, omega arith, uncatch_moves P s.moves scope k value s refl)
   does LowOf c t scope term ops last env s u (lays_halt c2 t2 value ms x prep) st =
       (_, halt_reaches cps p laid LowOf c2 t2 scope env s u value ms x prep st, omega arith, halt_moves P s.moves scope value s refl)
 

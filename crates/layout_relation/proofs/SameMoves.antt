@@ -14,10 +14,10 @@ use Rattle.cps_ir.specs.declared.args.Arg.TheVariants as Argument
 use Rattle.cps_ir.specs.declared.terms.Cont.{Cont}
 use Rattle.cps_ir.specs.declared.terms.Term.TheVariants as Node
 use Rattle.cps_ir.specs.Parts.{is_assigned}
-use Rattle.cps_ir.specs.States.{with_object, with_location_at, with_global_at, Program, Direct, Bound, Begun, faulted, Scope, Closure, Handler, Pending, Waiting, Back, Live, At, Calling, State, going, ended, with_waiting, with_store, taking, with_closures}
+use Rattle.cps_ir.specs.States.{with_catch, with_object, with_location_at, with_global_at, Program, Direct, Bound, Begun, faulted, Scope, Closure, Handler, Pending, Waiting, Back, Live, At, Calling, State, going, ended, with_waiting, with_store, taking, with_closures}
 use Rattle.cps_ir.specs.Giving.{provided, record_words, location_of, with_place, with_global, Way, Out, On, Lost, way, or_broken, or_unbound, meant_by, value_of, with_arg, with_args, closing, located, binding, binding_all, resumed, returned, given, give, pushing, after_row, lam_words}
 use Rattle.cps_ir.specs.Calls.{begun, entered, default_of, defaulted, looked, unwound, escaped, escape, operated, called}
-use Rattle.cps_ir.specs.Running.{handlers_of, creating, new_closures, closures_of, performed}
+use Rattle.cps_ir.specs.Running.{opening, closing_catch, handlers_of, creating, new_closures, closures_of, performed}
 
 module _ (p : Program) (n : ℕ) where
   abbrev Counts : State → Type 0
@@ -131,6 +131,23 @@ module _ (p : Program) (n : ℕ) where
       let go : State → Val → State = λ t v. creating p (record { procedure = v; handlers = handlers_of ops methods scope }) t (λ u w. give p scope k w u) in
       by_provided (length ops == length methods) s (λ r. with_arg p scope proc r go) c
       (by_arg scope proc s go c (λ t v d. by_given (way scope k) (ObjectV (length t.objects)) (taking (record_words p.cps) (with_object t (record { procedure = v; handlers = handlers_of ops methods scope }))) d))
+
+  by_opening : (to : Way) (s : State) (go : State → State) → Counts s → ((t : State) → Counts t → Counts (go t)) → Counts (opening to s go)
+  by_opening Out s go c h = h (taking 4 (with_catch s None)) c
+  by_opening (On pending) s go c h = h (taking 4 (with_catch s (Some pending))) c
+  by_opening Lost s go c h = c
+
+  pub catch_moves : (scope : Scope) (x : Var) (body : ℕ) (k : Cont) (s : State) → Counts s → Counts (performed p scope (Node.Catch x body k) s)
+  catch_moves scope x body k s c = by_opening (way scope k) s (λ t. binding p x.0 (EscapeV s.catches) scope t (λ inner u. going (At body inner) u)) c
+      (λ t d. by_binding x.0 (EscapeV s.catches) scope t (λ inner u. going (At body inner) u) d (λ inner u e. e))
+
+  by_closing : (waiting : List Waiting) (s : State) (go : State → State) → Counts s → ((t : State) → Counts t → Counts (go t)) → Counts (closing_catch waiting s go)
+  by_closing [] s go c h = c
+  by_closing (Back pending ∷ waiting) s go c h = c
+  by_closing (Live i own ∷ waiting) s go c h = h (with_waiting s waiting) c
+
+  pub uncatch_moves : (scope : Scope) (k : Cont) (value : Arg) (s : State) → Counts s → Counts (performed p scope (Node.Uncatch k value) s)
+  uncatch_moves scope k value s c = by_arg scope value s (λ t v. closing_catch t.waiting t (λ u. give p scope k v u)) c (λ t v d. by_closing t.waiting t (λ u. give p scope k v u) d (λ u e. by_given (way scope k) v u e))
 
   -- ---- calls
 
