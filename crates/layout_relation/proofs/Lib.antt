@@ -29,3 +29,4 @@ pub mod SameMoves
 pub mod Matching
 pub mod Starting
 pub mod Keeping
+pub mod Smallness

@@ -110,7 +110,7 @@ module _ (cps : Cps) (p : Frames) (laid : IsLaidOut cps p) where
   does : (LowOf : ℕ → ℕ → Type 0) (c : Context) (t : ℕ) (scope : Scope) (term : Term) (ops : List FrameOp) (last : FrameEnd) (env : Env) (s : State) (u : FrameState) → LaysTerm cps w c t term ops last → Stage c scope term env s u LowOf → Does c t scope term ops last env s u LowOf
   does LowOf c t scope term ops last env s u (lays_tail_call c2 t2 f args k ms g bs prep out none) st =
       (_, tail_reaches cps p laid LowOf c2 t2 scope env s u f args k ms g bs prep out none st, (let n = prepares_count (f ∷ args) ms (g ∷ bs) prep in omega (arith, n)), call_moves P s.moves scope f args (Continuation.Var k) s refl)
-  does LowOf c t scope term ops last env s u (lays_call c2 t2 f args k ms g bs r kept back prep awaits for held) st =
+  does LowOf c t scope term ops last env s u (lays_call c2 t2 f args k ms g bs r kept back prep awaits for held once) st =
       (_, call_reaches cps p laid LowOf c2 t2 scope env s u f args k ms g bs r kept back prep awaits for held st, (let n = prepares_count (f ∷ args) ms (g ∷ bs) prep in let k = (block_at cps p laid back (Resumes r) for).fits.small in let h = zipped_length _ _ _ held in omega (arith, n, k, h)), call_moves P s.moves scope f args k s refl)
   does LowOf c t scope term ops last env s u (lays_prim c2 t2 f args k ms bs to ops2 last2 prep unused gives) st =
       (_, prim_reaches cps p laid LowOf c2 t2 scope env s u f args k ms bs to ops2 last2 prep unused gives st, (let n = prepares_count args ms bs prep in omega (arith, n)), prim_moves P s.moves scope f args k s refl)
@@ -138,7 +138,7 @@ module _ (cps : Cps) (p : Frames) (laid : IsLaidOut cps p) where
       (_, object_reaches cps p laid LowOf c2 t2 scope env s u proc names methods k ms x template shape needs kept to ops2 last2 prep count is_shape are_methods held small unused gives st, (let h = zipped_length _ _ _ held in omega (arith, h, small)), object_moves P s.moves scope proc names methods k s refl)
   does LowOf c t scope term ops last env s u (lays_tail_catch c2 t2 x body k to back ops2 last2 out none passes fresh plain unused onward) st =
       (_, tail_catch_reaches cps p laid LowOf c2 t2 scope env s u x body k to back ops2 last2 out none passes fresh plain unused onward st, omega arith, catch_moves P s.moves scope x body (Continuation.Var k) s refl)
-  does LowOf c t scope term ops last env s u (lays_catch c2 t2 x body k r kept to back ops2 last2 awaits for held fresh plain unused onward) st =
+  does LowOf c t scope term ops last env s u (lays_catch c2 t2 x body k r kept to back ops2 last2 awaits for held once fresh plain unused onward) st =
       (_, catch_reaches cps p laid LowOf c2 t2 scope env s u x body k r kept to back ops2 last2 awaits for held fresh plain unused onward st, (let n = (block_at cps p laid back (Resumes r) for).fits.small in let h = zipped_length _ _ _ held in omega (arith, n, h)), catch_moves P s.moves scope x body k s refl)
   does LowOf c t scope term ops last env s u (lays_tail_uncatch c2 t2 k value outer ms y ops2 last2 open_ prep gives) st =
       (_, bare_reaches cps p laid LowOf c2 t2 scope env s u k value outer ms y ops2 last2 open_ prep gives st, omega arith, uncatch_moves P s.moves scope k value s refl)

@@ -184,7 +184,7 @@ mutual
         → LaysTerm cps w c t (Node.Call f args (Continuation.Var k)) made (Last.Call g bs)
     lays_call : (c : Context) (t : ℕ) (f : Arg) (args : List Arg) (k : Cont) (made : List FrameOp) (g : FrameArg) (bs : List FrameArg) (return : Return) (kept : List Var) (back : ℕ)
         → Prepares cps w c.vars (f ∷ args) made (g ∷ bs)
-        → Awaits c k return → IsFor w back (Resumes return) → AreHeld c.vars return.kept kept
+        → Awaits c k return → IsFor w back (Resumes return) → AreHeld c.vars return.kept kept → AreDistinct (numbers kept)
         → LaysTerm cps w c t (Node.Call f args k) (made ++ Op.Push kept back ∷ []) (Last.Call g bs)
     lays_prim : (c : Context) (t : ℕ) (b : Builtin) (args : List Arg) (k : Cont) (made : List FrameOp) (bs : List FrameArg) (to : Var) (ops : List FrameOp) (last : FrameEnd)
         → Prepares cps w c.vars args made bs → IsUnused c.vars to.0 → Gives cps w c t k (FrameArgument.Var to) ops last
@@ -226,7 +226,7 @@ mutual
     lays_tail_catch : (c : Context) (t : ℕ) (x : Var) (body : ℕ) (k to : Var) (back : ℕ) (ops : List FrameOp) (last : FrameEnd) → exit_of c.exits k.0 ≡ Leaves → c.catches ≡ [] → IsFor w back PassesOn
         → IsFresh c x.0 → w.celled x.0 ≡ false → IsUnused c.vars to.0 → GoesOn cps w (record c { vars = (x.0, to.0) ∷ c.vars; catches = Bare ∷ [] }) body ops last
         → LaysTerm cps w c t (Node.Catch x body (Continuation.Var k)) (Op.CatchOpen to back ∷ ops) last
-    lays_catch : (c : Context) (t : ℕ) (x : Var) (body : ℕ) (k : Cont) (return : Return) (kept : List Var) (to : Var) (back : ℕ) (ops : List FrameOp) (last : FrameEnd) → Awaits c k return → IsFor w back (Resumes return) → AreHeld c.vars return.kept kept
+    lays_catch : (c : Context) (t : ℕ) (x : Var) (body : ℕ) (k : Cont) (return : Return) (kept : List Var) (to : Var) (back : ℕ) (ops : List FrameOp) (last : FrameEnd) → Awaits c k return → IsFor w back (Resumes return) → AreHeld c.vars return.kept kept → AreDistinct (numbers kept)
         → IsFresh c x.0 → w.celled x.0 ≡ false → IsUnused c.vars to.0 → GoesOn cps w (record c { vars = (x.0, to.0) ∷ c.vars; catches = Framed ∷ c.catches }) body ops last
         → LaysTerm cps w c t (Node.Catch x body k) (Op.Push kept back ∷ Op.CatchOpen to back ∷ ops) last
     lays_tail_uncatch : (c : Context) (t : ℕ) (k : Cont) (value : Arg) (outer : List Catching) (made : List FrameOp) (b : FrameArg) (ops : List FrameOp) (last : FrameEnd) → c.catches ≡ Bare ∷ outer → Prepares cps w c.vars (value ∷ []) made (b ∷ [])
@@ -325,6 +325,7 @@ BlockFits cps w (Resumes r) b = ReturnFits cps w r b
 pub record IsLaidOut (cps : Cps) (p : Frames) : Type 0 where
   pub sketch : Sketch
   pub shared : p.shared ≡ cps.shared
+  pub count : length sketch.purposes ≡ length p.blocks.items
   pub entry : IsFor sketch p.entry (Begins (record { vars = []; exits = NoExit; catches = []; term = cps.entry }))
   -- the codes of the procedures of globals and operations
   pub firsts : (l : ℕ) → l < first_lams cps → IsFor sketch l (CodeOf l) × (sketch.needs l ≡ [])

@@ -1,4 +1,5 @@
 -- What follows where frames lay out a program.
+use Rattle.frame_ir.specs.Sizes.{HasSmallFrames, HasSmallRecords, KeepsOnce}
 use Rattle.std.specs.Prelude.{ℕ, ◌+◌, ◌*◌}
 use Rattle.program_runs.specs.Keeps.{Keeps}
 use Rattle.cps_ir.specs.declared.terms.Cps.{Cps}
@@ -15,3 +16,13 @@ moves_for cps = 4 * (cps.shared.size + 8)
 -- the frames keep the meaning of the program with every procedure counted as escaping
 abbrev pub LaidOutKeeps : Type 0
 LaidOutKeeps = (cps : Cps) (p : Frames) → IsWhole cps → IsLaidOut cps p → Keeps (moves_for cps) 0 (run_at_most cps) (run p)
+
+-- no Push makes a frame of more than 8 words and twice the size of the unit, no closure or object has more than 4 and that size, and no
+-- frame keeps a variable twice
+pub record IsSmall (p : Frames) : Type 0 where
+  pub frames : HasSmallFrames p
+  pub records : HasSmallRecords p
+  pub once : KeepsOnce p
+
+abbrev pub LaidOutIsSmall : Type 0
+LaidOutIsSmall = (cps : Cps) (p : Frames) → IsLaidOut cps p → IsSmall p
