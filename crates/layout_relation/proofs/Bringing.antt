@@ -1,47 +1,30 @@
 -- A value that an operation brings into a new variable is given, and faults.
-use Rattle.std.proofs.Common.{◌≡◌, ℕ, zero, suc, ◌+◌, ◌*◌, ◌≤◌, ◌<◌, ◌⊎◌, Bool, true, false, if◌then◌else◌, List, [], ◌∷◌, ◌++◌, length, Option, Some, None, slice_get, refl, sym, ap, subst, ◌∙◌, arith, inl, inr, append-nil}
+use Rattle.std.proofs.Common.{◌≡◌, ℕ, ◌+◌, ◌≤◌, if◌then◌else◌, List, ◌∷◌, length, Some, refl, sym, ap, subst, arith}
 use Rattle.program_runs.specs.Runs as runs
 use Rattle.t_base.specs.declared.basics.Var.{Var}
-use Rattle.t_base.specs.declared.builtins.Builtin.{Builtin}
-use Rattle.t_prim.specs.Values.{Val, shown_of}
+use Rattle.t_prim.specs.Values.{Val}
 use Rattle.std.specs.Prelude.{option_and_then}
-use Rattle.std.specs.List.{AllZip}
 use Rattle.t_base.specs.declared.faults.Fault.{Fault}
-use Rattle.cps_ir.specs.declared.args.Arg.{Arg}
 use Rattle.cps_ir.specs.declared.terms.Cont.{Cont}
-use Rattle.cps_ir.specs.declared.terms.Cont.TheVariants as Continuation
-use Rattle.cps_ir.specs.declared.terms.Term.TheVariants as Node
 use Rattle.cps_ir.specs.declared.terms.Cps.{Cps}
-use Rattle.cps_ir.specs.States.{Scope, State, Program, marked, all_escape, At, Calling, Ended, going as going_to, ended as ended_to, faulted as faulted_to, with_global_at as with_global_to, with_waiting, Back, Pending, Joined}
-use Rattle.cps_ir.specs.Giving.{or_unbound, with_global, Way, Out, On, Lost, way, give, pushing}
-use Rattle.cps_ir.specs.Running.{performed}
-use Rattle.frame_ir.specs.declared.args.Arg.{Arg as FrameArg}
+use Rattle.cps_ir.specs.States.{Scope, State, Program, marked, all_escape, faulted as faulted_to}
+use Rattle.cps_ir.specs.Giving.{give}
 use Rattle.frame_ir.specs.declared.args.Arg.TheVariants as FrameArgument
 use Rattle.frame_ir.specs.declared.forms.FrameOp.{FrameOp}
-use Rattle.frame_ir.specs.declared.forms.FrameOp.TheVariants as Op
 use Rattle.frame_ir.specs.declared.forms.FrameEnd.{FrameEnd}
-use Rattle.frame_ir.specs.declared.forms.FrameEnd.TheVariants as Last
-use Rattle.frame_ir.specs.declared.forms.Block.{Block}
 use Rattle.frame_ir.specs.declared.forms.Frames.{Frames}
-use Rattle.frame_ir.specs.Values.{Value, Lasting, Frame, Env, value_at, lasting_of}
-use Rattle.frame_ir.specs.States.{Running, Calling as CallingAt, Ended as EndedAt, State as FrameState, going, counted, faulted, or_wrong, with_global_at, with_frame}
-use Rattle.frame_ir.specs.Arguments.{value_of, lasting_value, lasting_values, kept_values}
-use Rattle.frame_ir.specs.Arguments.{code_of_global}
-use Rattle.frame_ir.specs.Operations.{if_bound}
+use Rattle.frame_ir.specs.Values.{Lasting, Env, value_at, lasting_of}
+use Rattle.frame_ir.specs.States.{Running, Ended as EndedAt, State as FrameState, going, faulted}
+use Rattle.frame_ir.specs.Arguments.{lasting_value}
 use Rattle.frame_ir.specs.Running.{step}
-use Rattle.layout_relation.specs.Links.{Zipped, SameOption, neither, both, Links, Extends, SameVal}
-use Rattle.layout_relation.specs.Contexts.{Context, IsUnused, Return, Purpose, ArmOf, Resumes}
-use Rattle.layout_relation.specs.Laid.{Sketch, IsFor, StartsApart, Prepares, Gives, IsLaidOut}
-use Rattle.layout_relation.specs.Related.{SameMade, HoldAll, Leads, Waits, same_term, same_call, same_end}
+use Rattle.layout_relation.specs.Links.{Links, Extends, SameVal}
+use Rattle.layout_relation.specs.Contexts.{Context, IsUnused}
+use Rattle.layout_relation.specs.Laid.{Sketch, Gives, IsLaidOut}
+use Rattle.layout_relation.specs.Related.{SameMade, HoldAll, Leads, Waits, same_end}
 use Rattle.layout_relation.proofs.Growing.{waits_grow}
-use Rattle.layout_relation.proofs.Lists.{zip_get, zip_set, zip_join, zip_length, some_at}
 use Rattle.layout_relation.proofs.Scopes.{eqb_same, hold_set}
-use Rattle.layout_relation.proofs.Stepping.{given_store}
-use Rattle.layout_relation.proofs.Paths.{Path, steps}
-use Rattle.layout_relation.proofs.Preparing.{remade, Prepared}
-use Rattle.layout_relation.proofs.Arriving.{lasting_is, BlockAt, block_at}
-use Rattle.layout_relation.proofs.Handing.{LowBelow, Reaches, reaches_after, reaches_step, reaches_more, give_moves, gives_arrives}
-use Rattle.layout_relation.proofs.Staged.{Staged, First, first, with_others}
+use Rattle.layout_relation.proofs.Paths.{steps}
+use Rattle.layout_relation.proofs.Handing.{LowBelow, Reaches, reaches_after, reaches_step, give_moves, gives_arrives}
 
 module _ (cps : Cps) (p : Frames) (laid : IsLaidOut cps p) (Low : ℕ → ℕ → Type 0) where
   abbrev w : Sketch

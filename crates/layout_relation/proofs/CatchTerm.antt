@@ -1,45 +1,37 @@
 -- A CATCH is opened.
-use Rattle.std.proofs.Common.{◌≡◌, ℕ, zero, suc, ◌+◌, ◌*◌, ◌≤◌, ◌<◌, ◌⊎◌, Bool, true, false, if◌then◌else◌, List, [], ◌∷◌, ◌++◌, length, Option, Some, None, slice_get, refl, sym, ap, subst, ◌∙◌, arith, inl, inr, ⊎_elim, append-nil}
-use Rattle.program_runs.specs.Runs as runs
+use Rattle.std.proofs.Common.{◌≡◌, ℕ, suc, ◌+◌, ◌≤◌, ◌<◌, false, if◌then◌else◌, List, [], ◌∷◌, ◌++◌, length, Option, Some, None, slice_get, refl, sym, ap, subst, ◌∙◌, arith, inr, ⊎_elim}
 use Rattle.t_base.specs.declared.basics.Var.{Var}
-use Rattle.t_base.specs.declared.builtins.Builtin.{Builtin}
-use Rattle.t_prim.specs.Values.{Val, EscapeV}
+use Rattle.t_prim.specs.Values.{EscapeV}
 use Rattle.std.proofs.lemmas.Option.{slice_get_within}
-use Rattle.cps_ir.specs.declared.args.Arg.{Arg}
 use Rattle.cps_ir.specs.declared.terms.Cont.{Cont}
 use Rattle.cps_ir.specs.declared.terms.Cont.TheVariants as Continuation
 use Rattle.cps_ir.specs.declared.terms.Term.TheVariants as Node
 use Rattle.cps_ir.specs.declared.terms.Cps.{Cps}
-use Rattle.cps_ir.specs.States.{Scope, State, Program, marked, all_escape, At, Calling, Ended, going as going_to, ended as ended_to, Live, Direct, Bound, taking as taking_to, with_catch as with_catch_to, with_waiting, Back, Pending, Joined}
-use Rattle.cps_ir.specs.Giving.{binding, Way, Out, On, Lost, way, give, pushing}
+use Rattle.cps_ir.specs.States.{Scope, State, Program, marked, all_escape, At, going as going_to, Live, Direct, Bound, taking as taking_to, with_catch as with_catch_to, Pending}
+use Rattle.cps_ir.specs.Giving.{binding}
 use Rattle.cps_ir.specs.Running.{performed, opening}
-use Rattle.frame_ir.specs.declared.args.Arg.{Arg as FrameArg}
 use Rattle.frame_ir.specs.declared.forms.FrameOp.{FrameOp}
 use Rattle.frame_ir.specs.declared.forms.FrameOp.TheVariants as Op
 use Rattle.frame_ir.specs.declared.forms.FrameEnd.{FrameEnd}
-use Rattle.frame_ir.specs.declared.forms.FrameEnd.TheVariants as Last
-use Rattle.frame_ir.specs.declared.forms.Block.{Block}
 use Rattle.frame_ir.specs.declared.forms.Frames.{Frames}
-use Rattle.frame_ir.specs.Values.{Value, Lasting, Frame, Env, value_at}
-use Rattle.frame_ir.specs.States.{Running, Calling as CallingAt, Ended as EndedAt, State as FrameState, going, counted, taking, with_catch, or_wrong, with_frame}
-use Rattle.frame_ir.specs.Arguments.{value_of, lasting_value, lasting_values, kept_values}
+use Rattle.frame_ir.specs.Values.{Lasting, Frame, Env, value_at}
+use Rattle.frame_ir.specs.States.{Running, State as FrameState, going, counted, taking, with_catch, or_wrong, with_frame}
 use Rattle.frame_ir.specs.Operations.{slots_of, pushed_frame, catch_frame}
 use Rattle.frame_ir.specs.Running.{step}
-use Rattle.layout_relation.specs.Links.{IsIn, first as at_first, later, IsTied, Zipped, Links, Extends, SameVal, escape}
-use Rattle.layout_relation.specs.Contexts.{Context, Catching, Bare, Framed, PassesOn, Exit, Leaves, exit_of, IsFresh, IsUnused, Return, Purpose, ArmOf, Resumes}
-use Rattle.layout_relation.specs.Laid.{Sketch, Awaits, AreHeld, GoesOn, IsFor, StartsApart, Prepares, Gives, IsLaidOut}
-use Rattle.layout_relation.specs.Related.{SameMade, SameFrame, SameCatch, HoldAll, Leads, leads_bound, Waits, waits_bare, waits_framed, same_term, same_call, same_end}
+use Rattle.layout_relation.specs.Links.{first as at_first, later, IsTied, Links, Extends, escape}
+use Rattle.layout_relation.specs.Contexts.{Context, Catching, Bare, Framed, PassesOn, Leaves, exit_of, IsFresh, IsUnused, Return, Resumes}
+use Rattle.layout_relation.specs.Laid.{Sketch, Awaits, AreHeld, GoesOn, IsFor, IsLaidOut}
+use Rattle.layout_relation.specs.Related.{SameMade, SameFrame, SameCatch, HoldAll, Leads, leads_bound, Waits, waits_bare, waits_framed}
 use Rattle.layout_relation.proofs.Growing.{waits_grow, hold_grows, captured_grows, store_grows, globals_grow, cells_grow, objects_grow, closure_grows}
 use Rattle.layout_relation.proofs.Lists.{get_front, get_behind, in_cases}
 use Rattle.layout_relation.proofs.Scopes.{leads_out, eqb_same, hold_set, hold_bound, hold_more}
 use Rattle.layout_relation.proofs.Made.{still_one}
 use Rattle.layout_relation.proofs.Making.{kept_all}
 use Rattle.layout_relation.proofs.CallTerm.{pushes}
-use Rattle.layout_relation.proofs.Paths.{Path, steps}
+use Rattle.layout_relation.proofs.Paths.{steps}
 use Rattle.layout_relation.proofs.Preparing.{framed_made}
-use Rattle.layout_relation.proofs.Arriving.{lasting_is, BlockAt, block_at}
-use Rattle.layout_relation.proofs.Handing.{bound_to, found_first, direct_same, goes_arrives, LowBelow, Reaches, reaches_after, reaches_step, reaches_more, give_moves, gives_arrives}
-use Rattle.layout_relation.proofs.Staged.{waiting_count, waits_count, Staged, First, first, with_others}
+use Rattle.layout_relation.proofs.Handing.{bound_to, found_first, direct_same, goes_arrives, LowBelow, Reaches, reaches_after, reaches_step}
+use Rattle.layout_relation.proofs.Staged.{waiting_count, waits_count, Staged}
 
 module _ (cps : Cps) (p : Frames) (laid : IsLaidOut cps p) (Low : ℕ → ℕ → Type 0) where
   abbrev w : Sketch
@@ -100,8 +92,13 @@ module _ (cps : Cps) (p : Frames) (laid : IsLaidOut cps p) (Low : ℕ → ℕ �
       let made2 = opened_made links s u own back made in
       let held1 = hold_grows links new more w scope env c.vars held in
       let held2 = hold_set w new inner env c.vars to.0 (Lasting (EscapeV (length u.frames))) unused (hold_bound w new scope env c.vars x.0 (Direct (EscapeV s.catches)) fresh.0 held1) in
-      let held3 = hold_more w new inner env2 c.vars x.0 to.0 (record { meant = Direct (EscapeV s.catches); value = Lasting (EscapeV (length u.frames)); is = found_first cps p laid Low x.0 (Direct (EscapeV s.catches)) scope;
-          at = ap (λ z. if z then Some (Lasting (EscapeV (length u.frames))) else value_at env to.0) (eqb_same to.0); same = direct_same cps p laid Low new x.0 (EscapeV s.catches) (EscapeV (length u.frames)) plain (escape s.catches (length u.frames) (at_first (s.catches, length u.frames) links.escapes)) }) held2 in
+      let held3 = hold_more w new inner env2 c.vars x.0 to.0 (record {
+        meant = Direct (EscapeV s.catches);
+        value = Lasting (EscapeV (length u.frames));
+        is = found_first cps p laid Low x.0 (Direct (EscapeV s.catches)) scope;
+        at = ap (λ z. if z then Some (Lasting (EscapeV (length u.frames))) else value_at env to.0) (eqb_same to.0);
+        same = direct_same cps p laid Low new x.0 (EscapeV s.catches) (EscapeV (length u.frames)) plain (escape s.catches (length u.frames) (at_first (s.catches, length u.frames) links.escapes));
+      }) held2 in
       let lows : LowBelow cps p laid Low u2 = λ n le. low u2.store.heap n (let a = made.store.heap in omega (arith, a)) le in
       let arrives = goes_arrives cps p laid Low new final u2 (record c { vars = (x.0, to.0) ∷ c.vars; catches = catches }) body inner ops last env2 onward held3 (leads_bound x.0 (Direct (EscapeV s.catches)) scope c.exits fresh.1 leads) waits made2 refl lows in
       reaches_step cps p w Low final at on 1 (cps.shared.size + 4) (w.rank t) refl (omega arith) (lows (length u2.live) (omega arith)) arrives
@@ -123,8 +120,8 @@ module _ (cps : Cps) (p : Frames) (laid : IsLaidOut cps p) (Low : ℕ → ℕ �
       let s2 = taking_to 4 (with_catch_to s None) in
       let final = going_to (At body (Bound x.0 (Direct (EscapeV s.catches)) ∷ scope)) s2 in
       let there : performed P scope (Node.Catch x body (Continuation.Var k)) s ≡ final =
-          ap (λ to. opening to s (λ t. binding P x.0 (EscapeV s.catches) scope t (λ inner u. going_to (At body inner) u))) (leads_out scope c.exits k.0 st.leads out)
-          ∙ bound_to cps p laid Low x.0 (EscapeV s.catches) scope s2 (λ inner u. going_to (At body inner) u) in
+      ap (λ to. opening to s (λ t. binding P x.0 (EscapeV s.catches) scope t (λ inner u. going_to (At body inner) u))) (leads_out scope c.exits k.0 st.leads out)
+      ∙ bound_to cps p laid Low x.0 (EscapeV s.catches) scope s2 (λ inner u. going_to (At body inner) u) in
       let heap = ap (λ z. z.store.heap) there in
       let wait = ap (λ z. waiting_count z.waiting) there in
       let new = more_escapes st.links s.catches (length u.frames) in
@@ -147,8 +144,8 @@ module _ (cps : Cps) (p : Frames) (laid : IsLaidOut cps p) (Low : ℕ → ℕ �
       let s2 = taking_to 4 (with_catch_to s (Some q.pending)) in
       let final = going_to (At body (Bound x.0 (Direct (EscapeV s.catches)) ∷ scope)) s2 in
       let there : performed P scope (Node.Catch x body k) s ≡ final =
-          ap (λ to. opening to s (λ t. binding P x.0 (EscapeV s.catches) scope t (λ inner u. going_to (At body inner) u))) q.leads
-          ∙ bound_to cps p laid Low x.0 (EscapeV s.catches) scope s2 (λ inner u. going_to (At body inner) u) in
+      ap (λ to. opening to s (λ t. binding P x.0 (EscapeV s.catches) scope t (λ inner u. going_to (At body inner) u))) q.leads
+      ∙ bound_to cps p laid Low x.0 (EscapeV s.catches) scope s2 (λ inner u. going_to (At body inner) u) in
       let heap = ap (λ z. z.store.heap) there in
       let wait = ap (λ z. waiting_count z.waiting) there in
       let frame = pushed_frame back (slots_of (Op.CatchOpen to back ∷ ops) (length kept)) keeps.values in

@@ -1,46 +1,38 @@
 -- Cells.
-use Rattle.std.proofs.Common.{◌≡◌, ℕ, zero, suc, ◌+◌, ◌*◌, ◌≤◌, ◌<◌, ◌⊎◌, Bool, true, false, if◌then◌else◌, List, [], ◌∷◌, ◌++◌, length, Option, Some, None, slice_get, slice_set, refl, sym, ap, subst, ◌∙◌, arith, inl, inr, append-nil}
-use Rattle.program_runs.specs.Runs as runs
+use Rattle.std.proofs.Common.{◌≡◌, ℕ, zero, suc, ◌+◌, ◌*◌, ◌≤◌, ◌<◌, Bool, true, false, if◌then◌else◌, List, [], ◌∷◌, ◌++◌, length, Option, Some, None, slice_get, slice_set, refl, sym, ap, subst, ◌∙◌, arith, inl}
 use Rattle.t_base.specs.declared.basics.Var.{Var}
-use Rattle.t_base.specs.declared.builtins.Builtin.{Builtin}
-use Rattle.t_prim.specs.Values.{Val, shown_of}
+use Rattle.t_prim.specs.Values.{Val}
 use Rattle.std.specs.Prelude.{option_and_then}
-use Rattle.std.specs.List.{AllZip}
 use Rattle.cps_ir.specs.declared.args.Arg.{Arg}
 use Rattle.cps_ir.specs.declared.terms.Cont.{Cont}
-use Rattle.cps_ir.specs.declared.terms.Cont.TheVariants as Continuation
 use Rattle.cps_ir.specs.declared.terms.Term.TheVariants as Node
 use Rattle.cps_ir.specs.declared.terms.Cps.{Cps}
-use Rattle.cps_ir.specs.States.{Scope, State, Program, marked, all_escape, At, Calling, Ended, going as going_to, ended as ended_to, Meant, InLocation, Bound, taking as taking_to, with_location, with_location_at, with_waiting, Back, Pending, Joined}
-use Rattle.cps_ir.specs.Giving.{meant_by, value_of as meant_value, location_of, located, with_variable, with_place, or_unbound, Way, Out, On, Lost, way, give, pushing}
+use Rattle.cps_ir.specs.States.{Scope, State, Program, marked, all_escape, At, going as going_to, Meant, InLocation, Bound, taking as taking_to, with_location, with_location_at}
+use Rattle.cps_ir.specs.Giving.{value_of as meant_value, location_of, located, with_place, or_unbound, way, give}
 use Rattle.cps_ir.specs.Running.{performed}
 use Rattle.frame_ir.specs.declared.args.Arg.{Arg as FrameArg}
 use Rattle.frame_ir.specs.declared.args.Arg.TheVariants as FrameArgument
 use Rattle.frame_ir.specs.declared.forms.FrameOp.{FrameOp}
 use Rattle.frame_ir.specs.declared.forms.FrameOp.TheVariants as Op
 use Rattle.frame_ir.specs.declared.forms.FrameEnd.{FrameEnd}
-use Rattle.frame_ir.specs.declared.forms.FrameEnd.TheVariants as Last
-use Rattle.frame_ir.specs.declared.forms.Block.{Block}
 use Rattle.frame_ir.specs.declared.forms.Frames.{Frames}
-use Rattle.frame_ir.specs.Values.{Value, Lasting, CellAt, Frame, Env, value_at, lasting_of}
-use Rattle.frame_ir.specs.States.{Running, Calling as CallingAt, Ended as EndedAt, State as FrameState, going, counted, taking, with_cell, with_cell_at, or_wrong, with_frame}
-use Rattle.frame_ir.specs.Arguments.{value_of, lasting_value, lasting_values, kept_values}
-use Rattle.frame_ir.specs.Operations.{with_cell_of, cell_of}
+use Rattle.frame_ir.specs.Values.{Value, Lasting, CellAt, Env, value_at}
+use Rattle.frame_ir.specs.States.{Running, State as FrameState, going, counted, taking, with_cell, with_cell_at, or_wrong}
+use Rattle.frame_ir.specs.Arguments.{lasting_value}
+use Rattle.frame_ir.specs.Operations.{with_cell_of}
 use Rattle.frame_ir.specs.Running.{step}
-use Rattle.layout_relation.specs.Links.{IsIn, Zipped, SameOption, neither, both, Links, Extends, SameVal, SameMeant, value as at_value, cell as at_cell}
-use Rattle.layout_relation.specs.Contexts.{Context, IsFresh, with_var, IsUnused, Return, Purpose, ArmOf, Resumes}
-use Rattle.layout_relation.specs.Laid.{Sketch, GoesOn, IsFor, StartsApart, Prepares, Gives, IsLaidOut}
-use Rattle.layout_relation.specs.Related.{SameMade, Holds, HoldAll, Leads, leads_bound, Waits, same_term, same_call, same_end}
+use Rattle.layout_relation.specs.Links.{IsIn, SameOption, neither, both, Links, Extends, SameVal, SameMeant, value as at_value, cell as at_cell}
+use Rattle.layout_relation.specs.Contexts.{Context, IsFresh, with_var, IsUnused}
+use Rattle.layout_relation.specs.Laid.{Sketch, GoesOn, Prepares, Gives, IsLaidOut}
+use Rattle.layout_relation.specs.Related.{SameMade, leads_bound}
 use Rattle.layout_relation.proofs.Growing.{waits_grow, hold_grows, val_grows, store_grows, globals_grow, cells_grow, objects_grow, closure_grows}
 use Rattle.layout_relation.proofs.Lists.{zip_get, zip_set, zip_join, zip_length, some_at}
 use Rattle.layout_relation.proofs.Scopes.{eqb_same, hold_set, hold_bound, hold_more}
 use Rattle.layout_relation.proofs.Stepping.{given_store}
-use Rattle.layout_relation.proofs.Paths.{Path, steps}
-use Rattle.layout_relation.proofs.Preparing.{remade, Prepared}
-use Rattle.layout_relation.proofs.Bringing.{brings, fault_reaches, waits_behind}
-use Rattle.layout_relation.proofs.Arriving.{lasting_is, BlockAt, block_at}
-use Rattle.layout_relation.proofs.Handing.{LowBelow, Reaches, reaches_after, reaches_step, reaches_more, found_first, goes_arrives, give_moves, gives_arrives}
-use Rattle.layout_relation.proofs.Staged.{Staged, First, first, with_others}
+use Rattle.layout_relation.proofs.Paths.{steps}
+use Rattle.layout_relation.proofs.Bringing.{brings, waits_behind}
+use Rattle.layout_relation.proofs.Handing.{LowBelow, Reaches, reaches_after, reaches_step, found_first, goes_arrives, give_moves, gives_arrives}
+use Rattle.layout_relation.proofs.Staged.{Staged, first}
 
 module _ (cps : Cps) (p : Frames) (laid : IsLaidOut cps p) (Low : ℕ → ℕ → Type 0) where
   abbrev w : Sketch

@@ -1,48 +1,37 @@
 -- Globals.
-use Rattle.std.proofs.Common.{◌≡◌, ℕ, zero, suc, ◌+◌, ◌*◌, ◌≤◌, ◌<◌, ◌⊎◌, Bool, true, false, if◌then◌else◌, List, [], ◌∷◌, ◌++◌, length, Option, Some, None, slice_get, slice_set, refl, sym, ap, subst, ◌∙◌, arith, inl, inr, append-nil}
-use Rattle.program_runs.specs.Runs as runs
+use Rattle.std.proofs.Common.{◌≡◌, ℕ, zero, suc, ◌+◌, ◌*◌, ◌≤◌, ◌<◌, true, false, List, [], ◌∷◌, ◌++◌, length, Option, Some, None, slice_get, slice_set, refl, sym, ap, subst, ◌∙◌, arith, inl}
 use Rattle.t_base.specs.declared.basics.Var.{Var}
-use Rattle.t_base.specs.declared.builtins.Builtin.{Builtin}
-use Rattle.t_prim.specs.Values.{Val, shown_of}
-use Rattle.std.specs.Prelude.{option_and_then}
-use Rattle.std.specs.List.{AllZip}
+use Rattle.t_prim.specs.Values.{Val}
 use Rattle.t_base.specs.declared.faults.Fault.TheVariants.{Unbound}
 use Rattle.cps_ir.specs.declared.args.Arg.{Arg}
 use Rattle.cps_ir.specs.declared.terms.Cont.{Cont}
-use Rattle.cps_ir.specs.declared.terms.Cont.TheVariants as Continuation
 use Rattle.cps_ir.specs.declared.terms.Term.TheVariants as Node
 use Rattle.cps_ir.specs.declared.terms.Cps.{Cps}
-use Rattle.cps_ir.specs.States.{Scope, State, Program, marked, all_escape, At, Calling, Ended, going as going_to, ended as ended_to, faulted as faulted_to, with_global_at as with_global_to, with_waiting, Back, Pending, Joined}
-use Rattle.cps_ir.specs.Giving.{or_unbound, with_global, Way, Out, On, Lost, way, give, pushing}
+use Rattle.cps_ir.specs.States.{Scope, State, Program, marked, all_escape, with_global_at as with_global_to}
+use Rattle.cps_ir.specs.Giving.{or_unbound, with_global, way, give}
 use Rattle.cps_ir.specs.Running.{performed}
 use Rattle.frame_ir.specs.declared.args.Arg.{Arg as FrameArg}
 use Rattle.frame_ir.specs.declared.args.Arg.TheVariants as FrameArgument
 use Rattle.frame_ir.specs.declared.forms.FrameOp.{FrameOp}
 use Rattle.frame_ir.specs.declared.forms.FrameOp.TheVariants as Op
 use Rattle.frame_ir.specs.declared.forms.FrameEnd.{FrameEnd}
-use Rattle.frame_ir.specs.declared.forms.FrameEnd.TheVariants as Last
-use Rattle.frame_ir.specs.declared.forms.Block.{Block}
 use Rattle.frame_ir.specs.declared.forms.Frames.{Frames}
-use Rattle.frame_ir.specs.Values.{Value, Lasting, Frame, Env, value_at, lasting_of}
-use Rattle.frame_ir.specs.States.{Running, Calling as CallingAt, Ended as EndedAt, State as FrameState, going, counted, faulted, or_wrong, with_global_at, with_frame}
-use Rattle.frame_ir.specs.Arguments.{value_of, lasting_value, lasting_values, kept_values}
+use Rattle.frame_ir.specs.Values.{Lasting, Env}
+use Rattle.frame_ir.specs.States.{Running, State as FrameState, going, counted, or_wrong, with_global_at}
+use Rattle.frame_ir.specs.Arguments.{lasting_value}
 use Rattle.frame_ir.specs.Arguments.{code_of_global}
 use Rattle.frame_ir.specs.Operations.{if_bound}
 use Rattle.frame_ir.specs.Running.{step}
-use Rattle.layout_relation.specs.Links.{Zipped, SameOption, neither, both, Links, SameVal}
-use Rattle.layout_relation.specs.Contexts.{Context, IsUnused, Return, Purpose, ArmOf, Resumes}
-use Rattle.layout_relation.specs.Laid.{Sketch, IsFor, StartsApart, Prepares, Gives, IsLaidOut}
-use Rattle.layout_relation.specs.Related.{SameMade, HoldAll, Leads, Waits, same_term, same_call, same_end}
-use Rattle.layout_relation.proofs.Growing.{waits_grow}
-use Rattle.layout_relation.proofs.Lists.{zip_get, zip_set, zip_join, zip_length, some_at}
-use Rattle.layout_relation.proofs.Scopes.{eqb_same, hold_set}
+use Rattle.layout_relation.specs.Links.{SameOption, neither, both, Links, SameVal}
+use Rattle.layout_relation.specs.Contexts.{Context, IsUnused}
+use Rattle.layout_relation.specs.Laid.{Sketch, Prepares, Gives, IsLaidOut}
+use Rattle.layout_relation.specs.Related.{SameMade, HoldAll, Leads, Waits}
+use Rattle.layout_relation.proofs.Lists.{zip_get, zip_set, some_at}
 use Rattle.layout_relation.proofs.Stepping.{given_store}
-use Rattle.layout_relation.proofs.Paths.{Path, steps}
-use Rattle.layout_relation.proofs.Preparing.{remade, Prepared}
+use Rattle.layout_relation.proofs.Paths.{steps}
 use Rattle.layout_relation.proofs.Bringing.{brings, fault_reaches, waits_behind}
-use Rattle.layout_relation.proofs.Arriving.{lasting_is, BlockAt, block_at}
-use Rattle.layout_relation.proofs.Handing.{LowBelow, Reaches, reaches_after, reaches_step, reaches_more, give_moves, gives_arrives}
-use Rattle.layout_relation.proofs.Staged.{Staged, First, first, with_others}
+use Rattle.layout_relation.proofs.Handing.{LowBelow, Reaches, reaches_after, give_moves, gives_arrives}
+use Rattle.layout_relation.proofs.Staged.{Staged, first}
 
 module _ (cps : Cps) (p : Frames) (laid : IsLaidOut cps p) (Low : ℕ → ℕ → Type 0) where
   abbrev w : Sketch
@@ -148,8 +137,8 @@ module _ (cps : Cps) (p : Frames) (laid : IsLaidOut cps p) (Low : ℕ → ℕ �
       let at = going (Running (Op.GlobalPut g b true ∷ ops) last x.env2) x.right in
       let gs = globals_at x.links2 x.left x.right g x.made lt in
       let one : step p at ≡ going (Running ops last x.env2) (counted 2 (with_global_at x.right g f.r)) =
-          ap (λ o. or_wrong o at (λ v. or_wrong (slice_get at.globals g) at (λ held. going (Running ops last x.env2) (counted 2 (with_global_at at g v))))) f.reads
-          ∙ ap (λ o. or_wrong o at (λ held. going (Running ops last x.env2) (counted 2 (with_global_at at g f.r)))) gs.at in
+      ap (λ o. or_wrong o at (λ v. or_wrong (slice_get at.globals g) at (λ held. going (Running ops last x.env2) (counted 2 (with_global_at at g v))))) f.reads
+      ∙ ap (λ o. or_wrong o at (λ held. going (Running ops last x.env2) (counted 2 (with_global_at at g f.r)))) gs.at in
       let waits = waits_behind cps p laid Low st.links x.links2 c s x.left u x.right x.extends st.waits x.waiting x.frames x.live in
       let lows : LowBelow cps p laid Low x.right = λ n le. st.low x.right.store.heap n (let a = x.made.store.heap in omega (arith, a, heap)) (inl (let e = ap length x.live in omega (arith, le, e))) in
       let path = x.path (λ h le. st.low h (length u.live) (omega (arith, le, heap)) (inl (omega arith))) in

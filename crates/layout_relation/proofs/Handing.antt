@@ -204,7 +204,6 @@ module _ (cps : Cps) (p : Frames) (laid : IsLaidOut cps p) (Low : ℕ → ℕ �
       → Returns (returned P waiting v s) t b
   returned_by links s t v b cs waiting live waits_none none is same made low = none_arrives links s t v b is made
   returned_by links s t v b cs waiting live (waits_back pending rest birth older r f waits) none is same made low = back_arrives links s t v b pending rest birth older r f waits is same made low
-
   returned_by links s t v b cs waiting live (waits_bare catch rest birth older back c passes waits) none is same made low = absurd (never none)
     where
       never : Bare ∷ [] ≡ [] → ⊥

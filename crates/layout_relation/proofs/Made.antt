@@ -1,10 +1,8 @@
 -- Closures that are made at once: their addresses, their records, and that what was made stays the same.
-use Rattle.std.proofs.Common.{◌≡◌, ℕ, zero, suc, ◌+◌, ◌≤◌, ◌<◌, nat_eq, Bool, true, false, List, [], ◌∷◌, ◌++◌, length, Some, slice_get, refl, sym, ap, subst, ◌∙◌, arith, ⊎_elim}
-use Rattle.std.specs.List.{AllZip}
+use Rattle.std.proofs.Common.{◌≡◌, ℕ, zero, suc, ◌+◌, ◌≤◌, ◌<◌, nat_eq, Bool, true, false, List, [], ◌∷◌, ◌++◌, length, slice_get, refl, sym, ap, subst, ◌∙◌, arith, ⊎_elim}
 use Rattle.std.proofs.lemmas.Bool.{eq-eqb, ne_eqb, eqb-true, eqb-false}
 use Rattle.std.proofs.lemmas.Option.{slice_get_within}
 use Rattle.t_base.specs.declared.basics.Var.{Var}
-use Rattle.t_prim.specs.Values.{ClosureV}
 use Rattle.cps_ir.specs.declared.terms.Cps.{Cps}
 use Rattle.cps_ir.specs.States.{Closure, State}
 use Rattle.frame_ir.specs.declared.forms.Place.TheVariants as At
@@ -13,7 +11,7 @@ use Rattle.frame_ir.specs.declared.forms.FrameOp.TheVariants as Op
 use Rattle.frame_ir.specs.Values.{Closure as FrameClosure, record_words}
 use Rattle.frame_ir.specs.States.{State as FrameState}
 use Rattle.frame_ir.specs.Groups.{made}
-use Rattle.layout_relation.specs.Links.{IsIn, first, later, Zipped, SameOption, Ties, IsTied, Links, Extends, IsOneToOne, SameVal, SameStore}
+use Rattle.layout_relation.specs.Links.{IsIn, first, later, Zipped, Ties, IsTied, Links, Extends, IsOneToOne, SameStore}
 use Rattle.layout_relation.specs.Laid.{Sketch, MakesClosure, Labels, labels_none, labels_one}
 use Rattle.layout_relation.specs.Related.{SameClosure, ClosuresAt, Parts, parts_of, FrameParts, parts_at, SameParts, SameMade}
 use Rattle.layout_relation.proofs.Lists.{get_front, get_behind, in_right, in_cases, in_none, in_either, some_at, zipped_at}

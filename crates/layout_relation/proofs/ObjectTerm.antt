@@ -1,48 +1,40 @@
 -- Objects.
-use Rattle.std.proofs.Common.{◌≡◌, ℕ, zero, suc, ◌+◌, ◌*◌, ◌≤◌, ◌<◌, ◌==◌, ◌⊎◌, Bool, true, false, if◌then◌else◌, List, [], ◌∷◌, ◌++◌, length, map, Option, Some, None, slice_get, refl, sym, ap, subst, ◌∙◌, arith, inl, inr, append-nil}
-use Rattle.program_runs.specs.Runs as runs
+use Rattle.std.proofs.Common.{◌≡◌, ℕ, suc, ◌+◌, ◌*◌, ◌≤◌, ◌==◌, true, if◌then◌else◌, List, [], ◌∷◌, ◌++◌, length, map, Some, slice_get, refl, sym, ap, subst, ◌∙◌, arith, inl}
 use Rattle.t_base.specs.declared.basics.Var.{Var}
-use Rattle.t_base.specs.declared.builtins.Builtin.{Builtin}
 use Rattle.t_prim.specs.Values.{Val, ObjectV}
 use Rattle.std.specs.Prelude.{zip}
 use Rattle.std.specs.List.{list_all}
 use Rattle.std.specs.Option.{option_map}
 use Rattle.cps_ir.specs.declared.args.Arg.{Arg}
 use Rattle.cps_ir.specs.declared.terms.Cont.{Cont}
-use Rattle.cps_ir.specs.declared.terms.Cont.TheVariants as Continuation
 use Rattle.cps_ir.specs.declared.terms.Term.TheVariants as Node
 use Rattle.cps_ir.specs.declared.terms.Cps.{Cps}
-use Rattle.cps_ir.specs.States.{Scope, State, Program, marked, all_escape, At, Calling, Ended, going as going_to, ended as ended_to, Object, Handler, taking as taking_to, with_object as with_object_to, with_waiting, Back, Pending, Joined}
-use Rattle.cps_ir.specs.Giving.{with_arg, provided, record_words as most_words, Way, Out, On, Lost, way, give, pushing}
-use Rattle.cps_ir.specs.Running.{performed, handlers_of, creating}
+use Rattle.cps_ir.specs.States.{Scope, State, Program, marked, all_escape, Object, Handler, taking as taking_to, with_object as with_object_to}
+use Rattle.cps_ir.specs.Giving.{with_arg, provided, record_words as most_words, way, give}
+use Rattle.cps_ir.specs.Running.{performed, handlers_of}
 use Rattle.frame_ir.specs.declared.args.Arg.{Arg as FrameArg}
 use Rattle.frame_ir.specs.declared.args.Arg.TheVariants as FrameArgument
 use Rattle.frame_ir.specs.declared.forms.Template.{Template}
 use Rattle.frame_ir.specs.declared.forms.FrameOp.{FrameOp}
 use Rattle.frame_ir.specs.declared.forms.FrameOp.TheVariants as Op
 use Rattle.frame_ir.specs.declared.forms.FrameEnd.{FrameEnd}
-use Rattle.frame_ir.specs.declared.forms.FrameEnd.TheVariants as Last
-use Rattle.frame_ir.specs.declared.forms.Block.{Block}
 use Rattle.frame_ir.specs.declared.forms.Frames.{Frames}
-use Rattle.frame_ir.specs.Values.{Value, Lasting, Object as FrameObject, is_lasting, record_words, Frame, Env}
-use Rattle.frame_ir.specs.States.{Running, Calling as CallingAt, Ended as EndedAt, State as FrameState, going, wrong, counted, taking, with_object, or_wrong, with_frame}
-use Rattle.frame_ir.specs.Arguments.{value_of, lasting_value, lasting_values, kept_values}
+use Rattle.frame_ir.specs.Values.{Value, Lasting, Object as FrameObject, is_lasting, record_words, Env}
+use Rattle.frame_ir.specs.States.{Running, State as FrameState, going, wrong, counted, taking, with_object, or_wrong}
+use Rattle.frame_ir.specs.Arguments.{kept_values}
 use Rattle.frame_ir.specs.Calls.{methods_of}
 use Rattle.frame_ir.specs.Running.{step}
 use Rattle.layout_relation.specs.Links.{Zipped, zip_none, zip_one, Links, Extends, SameVal, object}
-use Rattle.layout_relation.specs.Contexts.{Context, IsUnused, Return, Purpose, ArmOf, Resumes}
-use Rattle.layout_relation.specs.Laid.{Sketch, IsMethod, AreHeld, IsFor, StartsApart, Prepares, Gives, IsLaidOut}
-use Rattle.layout_relation.specs.Related.{SameMade, SameHandler, SameObject, AreCaptured, HoldAll, Leads, Waits, same_term, same_call, same_end}
+use Rattle.layout_relation.specs.Contexts.{Context, IsUnused}
+use Rattle.layout_relation.specs.Laid.{Sketch, IsMethod, AreHeld, Prepares, Gives, IsLaidOut}
+use Rattle.layout_relation.specs.Related.{SameMade, SameHandler, SameObject, AreCaptured}
 use Rattle.layout_relation.proofs.Growing.{waits_grow, hold_grows, val_grows, captured_grows, store_grows, globals_grow, cells_grow, objects_grow, closure_grows}
 use Rattle.layout_relation.proofs.Lists.{zip_join, zip_length, zipped_length}
 use Rattle.layout_relation.proofs.Making.{kept_all, even_most}
 use Rattle.layout_relation.proofs.Stepping.{given_store}
-use Rattle.layout_relation.proofs.Paths.{Path}
-use Rattle.layout_relation.proofs.Preparing.{remade, Prepared}
 use Rattle.layout_relation.proofs.Bringing.{brings, waits_behind}
-use Rattle.layout_relation.proofs.Arriving.{lasting_is, BlockAt, block_at}
-use Rattle.layout_relation.proofs.Handing.{LowBelow, Reaches, reaches_after, reaches_step, reaches_more, give_moves, gives_arrives}
-use Rattle.layout_relation.proofs.Staged.{Staged, First, first, with_others}
+use Rattle.layout_relation.proofs.Handing.{LowBelow, Reaches, reaches_after, give_moves}
+use Rattle.layout_relation.proofs.Staged.{Staged, first}
 
 module _ (cps : Cps) (p : Frames) (laid : IsLaidOut cps p) (Low : ℕ → ℕ → Type 0) where
   abbrev w : Sketch
@@ -121,9 +113,9 @@ module _ (cps : Cps) (p : Frames) (laid : IsLaidOut cps p) (Low : ℕ → ℕ �
       let u2 = counted (2 + length kept) (taking (record_words (length kept)) (with_object q.right y)) in
       let on : Val → List Value → FrameState = λ f vs. going (Running ops last ((to.0, Lasting (ObjectV (length at.objects))) ∷ q.env2)) (counted (2 + length kept) (taking (record_words (length kept)) (with_object at (record { procedure = f; template = template; captured = vs })))) in
       let one : step p at ≡ going (Running ops last ((to.0, Lasting (ObjectV j)) ∷ q.env2)) u2 =
-          ap (λ o. or_wrong o at (λ f. or_wrong (kept_values q.env2 kept) at (λ vs. if list_all is_lasting vs then on f vs else wrong at))) f.reads
-          ∙ ap (λ o. or_wrong o at (λ vs. if list_all is_lasting vs then on f.r vs else wrong at)) keeps.are
-          ∙ ap (λ z. if z then on f.r keeps.values else wrong at) keeps.lasting in
+      ap (λ o. or_wrong o at (λ f. or_wrong (kept_values q.env2 kept) at (λ vs. if list_all is_lasting vs then on f vs else wrong at))) f.reads
+      ∙ ap (λ o. or_wrong o at (λ vs. if list_all is_lasting vs then on f.r vs else wrong at)) keeps.are
+      ∙ ap (λ z. if z then on f.r keeps.values else wrong at) keeps.lasting in
       let waits0 = waits_behind cps p laid Low st.links q.links2 c s q.left u q.right q.extends st.waits q.waiting q.frames q.live in
       let waits = waits_grow q.links2 new more w q.right.frames q.right.frames (λ i f h. h) c.catches q.left.waiting q.right.live waits0 in
       let lows : LowBelow cps p laid Low u2 = λ n le. st.low u2.store.heap n (let a = made2.store.heap in omega (arith, a, heap)) (inl (let e = ap length q.live in omega (arith, le, e))) in

@@ -1,10 +1,9 @@
 -- The closures at the head of a term's operations are made in one step.
-use Rattle.std.proofs.Common.{◌≡◌, ℕ, suc, ◌+◌, ◌*◌, ◌≤◌, List, [], ◌∷◌, ◌++◌, length, Some, slice_get, refl, sym, ap, subst, ◌∙◌, arith, mul-le-mul_right}
+use Rattle.std.proofs.Common.{◌≡◌, ℕ, suc, ◌+◌, ◌*◌, ◌≤◌, List, [], ◌∷◌, ◌++◌, length, Some, refl, sym, ap, subst, ◌∙◌, arith, mul-le-mul_right}
 use Rattle.std.specs.Prelude.{sum_by}
-use Rattle.std.specs.List.{AllZip}
 use Rattle.std.proofs.lemmas.Bool.{true≢false}
 use Rattle.t_base.specs.declared.basics.Var.{Var}
-use Rattle.t_prim.specs.Values.{Val, ClosureV}
+use Rattle.t_prim.specs.Values.{Val}
 use Rattle.cps_ir.specs.declared.args.Arg.{Arg}
 use Rattle.cps_ir.specs.declared.terms.Cps.{Cps}
 use Rattle.cps_ir.specs.States.{Scope, marked, all_escape, State}
@@ -21,7 +20,7 @@ use Rattle.frame_ir.specs.States.{Running, State as FrameState, going}
 use Rattle.frame_ir.specs.Arguments.{lasting_values}
 use Rattle.frame_ir.specs.Groups.{Making as Planned, makings, behind, youngest_birth, addressed, made}
 use Rattle.frame_ir.specs.Running.{step}
-use Rattle.layout_relation.specs.Links.{Zipped, zip_none, IsTied, Links, Extends, SameVal, SameOption, SameStore}
+use Rattle.layout_relation.specs.Links.{Zipped, zip_none, Links, Extends, SameVal}
 use Rattle.layout_relation.specs.Laid.{Sketch, StartsApart, Prepares}
 use Rattle.layout_relation.specs.Related.{HoldAll, SameClosure, parts_of, parts_at, SameParts, SameMade}
 use Rattle.layout_relation.proofs.Lists.{get_front, zipped_more, in_left}

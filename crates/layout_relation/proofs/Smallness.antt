@@ -1,5 +1,5 @@
 -- Frames that lay out a program are small.
-use Rattle.std.proofs.Common.{◌≡◌, ◌≢◌, ℕ, zero, suc, ◌+◌, ◌*◌, ◌%◌, ◌≤◌, ◌<◌, ◌==◌, true, false, List, [], ◌∷◌, ◌++◌, length, Some, None, Option, slice_get, slice_index_or, refl, sym, ap, subst, ◌∙◌, arith, All, AllPairs}
+use Rattle.std.proofs.Common.{◌≡◌, ◌≢◌, ℕ, zero, suc, ◌+◌, ◌%◌, ◌≤◌, ◌<◌, List, [], ◌∷◌, ◌++◌, length, Some, slice_index_or, refl, sym, ap, subst, ◌∙◌, arith, All, AllPairs}
 use Rattle.std.specs.List.{AllByRecursion}
 use Rattle.std.proofs.Math.Nat.{mod-lt}
 use Rattle.std.proofs.lemmas.Bool.{true≢false, eq-eqb}
@@ -11,7 +11,6 @@ use Rattle.cps_ir.specs.declared.terms.Cont.{Cont}
 use Rattle.cps_ir.specs.declared.terms.Term.{Term}
 use Rattle.cps_ir.specs.declared.terms.Cps.{Cps}
 use Rattle.frame_ir.specs.declared.args.Arg.{Arg as FrameArg}
-use Rattle.frame_ir.specs.declared.forms.Place.{Place}
 use Rattle.frame_ir.specs.declared.forms.Place.TheVariants as At
 use Rattle.frame_ir.specs.declared.forms.FrameOp.{FrameOp}
 use Rattle.frame_ir.specs.declared.forms.FrameOp.TheVariants as Op
@@ -20,13 +19,12 @@ use Rattle.frame_ir.specs.declared.forms.Block.{Block}
 use Rattle.frame_ir.specs.declared.forms.Frames.{Frames}
 use Rattle.frame_ir.specs.Values.{even, record_words}
 use Rattle.frame_ir.specs.Operations.{slots_of, slots_behind}
-use Rattle.frame_ir.specs.Sizes.{most_frame_words, most_record_words, IsSmallOp, AreSmall, HasSmallFrames, IsSmallRecord, HasSmallRecords, OpKeepsOnce, KeepsOnce}
+use Rattle.frame_ir.specs.Sizes.{most_frame_words, most_record_words, AreSmall, IsSmallRecord, OpKeepsOnce}
 use Rattle.layout_relation.specs.Links.{IsIn, first, later}
 use Rattle.layout_relation.specs.Contexts.{Context, Return, Purpose, CodeOf, MethodOf, Begins, ArmOf, PassesOn, Resumes}
 use Rattle.layout_relation.specs.Laid.{Sketch, IsFor, numbers, AreDistinct, most_needs, Fetches, fetches_none, fetches_one, MakesClosure, Prepares, prepares_none, prepares_same, prepares_closure, Labels, labels_none, labels_one, Gives, gives_out, gives_join, gives_jump, gives_here, gives_unused, GoesOn, goes_here, goes_to, Lays, lays, LaysTerm, lays_tail_call, lays_call, lays_prim, lays_if, lays_labels, lays_join, lays_give, lays_global_get, lays_global_init, lays_global_set, lays_cell, lays_cell_get, lays_cell_set, lays_object, lays_tail_catch, lays_catch, lays_tail_uncatch, lays_uncatch, lays_halt, BlockFits, IsLaidOut}
-use Rattle.layout_relation.specs.Laws.{IsSmall, LaidOutIsSmall}
+use Rattle.layout_relation.specs.Laws.{LaidOutIsSmall}
 use Rattle.layout_relation.proofs.Lists.{zipped_length, in_is_not, some_at}
-use Rattle.layout_relation.proofs.Scopes.{eqb_flip}
 use Rattle.layout_relation.proofs.Arriving.{block_at}
 
 -- ---- what holds of each operation

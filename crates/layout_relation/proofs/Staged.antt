@@ -33,7 +33,6 @@ waits_count w links frames cs waiting live (waits_back pending rest birth older 
     let e = waits_count w links frames r.catches rest older h in
     let d = sum_by-cons count_of (Back pending) rest in
     omega (arith, e, d)
-
 waits_count w links frames cs waiting live (waits_bare catch rest birth older back c passes h) =
     let e = waits_count w links frames [] rest older h in
     let d = sum_by-cons count_of (Live catch None) rest in

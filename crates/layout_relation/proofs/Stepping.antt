@@ -29,11 +29,11 @@ use Rattle.frame_ir.specs.Values.{lasting_of, Frame, Value, Lasting, Object as F
 use Rattle.frame_ir.specs.States.{Running, with_live, wrong, counted, older_than, Calling as CallingAt, Looking as LookingAt, Entering as EnteringAt, State as FrameState, going, faulted, or_wrong, after_row, with_store}
 use Rattle.frame_ir.specs.Arguments.{lasting_value, bound, is_proc as is_proc_at, number_among, proc_count, code_of_default}
 use Rattle.frame_ir.specs.Calls.{jumped, begun, escaped, entered, returned as returned_to, called, operated, looked, methods_of, methods_at, defaulted}
-use Rattle.layout_relation.specs.Links.{AreOneToOne, IsIn, Zipped, zip_none, zip_one, SameOption, neither, both, IsTied, Links, SameVal, fix, char, nil, truth, symbol, string, pair, vector, closure, object, operation, builtin, escape, SameRow, gives, changes, faults}
+use Rattle.layout_relation.specs.Links.{AreOneToOne, Zipped, zip_none, zip_one, SameOption, neither, both, IsTied, Links, SameVal, fix, char, nil, truth, symbol, string, pair, vector, closure, object, operation, builtin, escape, SameRow, gives, changes, faults}
 use Rattle.layout_relation.specs.Contexts.{Catching, Return, PassesOn, CodeOf, MethodOf}
 use Rattle.layout_relation.specs.Laid.{Sketch, IsFor, IsLaidOut}
 use Rattle.layout_relation.specs.Related.{SameFrame, SameCatch, waits_none, waits_back, waits_bare, waits_framed, AreCaptured, SameHandler, SameObject, IsObjectFirst, Handles, handles_none, handles, Waits, SameMade, same_call, same_look, same_entry, same_method, Related}
-use Rattle.layout_relation.proofs.Lists.{in_none, zip_get, some_at}
+use Rattle.layout_relation.proofs.Lists.{zip_get, some_at}
 use Rattle.layout_relation.proofs.Rows.{row_same}
 use Rattle.layout_relation.proofs.Preparing.{remade}
 use Rattle.layout_relation.proofs.Arriving.{block_at, Arrives, arrives_more}
@@ -325,13 +325,13 @@ module _ (cps : Cps) (p : Frames) (laid : IsLaidOut cps p) (Low : ℕ → ℕ �
       let y = going (Running [] (Last.Return (FrameArgument.Var x)) ((x.0, Lasting u) ∷ [])) t2 in
       let begins : Block → FrameState = λ b2. if length b2.params == 1 then begun b2 (bound b2.params (Lasting u ∷ [])) t2 else wrong t2 in
       let goes : escaped p b u t ≡ y =
-          ap (λ o. or_wrong o t (λ f. jumped p f.back (Lasting u ∷ []) (with_live t (older_than b t.live)))) c.is
-          ∙ ap (λ l. jumped p c.frame.back (Lasting u ∷ []) (with_live t l)) is
-          ∙ ap (λ n. jumped p n (Lasting u ∷ []) t2) c.back_is
-          ∙ ap (λ o. or_wrong o t2 begins) blk.is
-          ∙ ap (λ ps. if length ps == 1 then going (Running blk.block.ops.items blk.block.last (bound ps (Lasting u ∷ []))) t2 else wrong t2) blk.fits.takes
-          ∙ ap (λ os. going (Running os blk.block.last ((x.0, Lasting u) ∷ [])) t2) blk.fits.ops
-          ∙ ap (λ l. going (Running [] l ((x.0, Lasting u) ∷ [])) t2) blk.fits.goes in
+      ap (λ o. or_wrong o t (λ f. jumped p f.back (Lasting u ∷ []) (with_live t (older_than b t.live)))) c.is
+      ∙ ap (λ l. jumped p c.frame.back (Lasting u ∷ []) (with_live t l)) is
+      ∙ ap (λ n. jumped p n (Lasting u ∷ []) t2) c.back_is
+      ∙ ap (λ o. or_wrong o t2 begins) blk.is
+      ∙ ap (λ ps. if length ps == 1 then going (Running blk.block.ops.items blk.block.last (bound ps (Lasting u ∷ []))) t2 else wrong t2) blk.fits.takes
+      ∙ ap (λ os. going (Running os blk.block.last ((x.0, Lasting u) ∷ [])) t2) blk.fits.ops
+      ∙ ap (λ l. going (Running [] l ((x.0, Lasting u) ∷ [])) t2) blk.fits.goes in
       let low2 : LowBelow cps p laid Low (counted 2 y) = λ n le. low n (omega (arith, le, fewer)) in
       let reads : lasting_value p.shared ((x.0, Lasting u) ∷ []) (FrameArgument.Var x) ≡ Some u = ap (λ z. option_and_then lasting_of (if z then Some (Lasting u) else None)) (eqb_same x.0) in
       let one : step p y ≡ returned_to p u (counted 2 y) = ap (λ o. or_wrong o y (λ v. returned_to p v (counted 2 y))) reads in
@@ -344,9 +344,9 @@ module _ (cps : Cps) (p : Frames) (laid : IsLaidOut cps p) (Low : ℕ → ℕ �
       let low2 : LowBelow cps p laid Low t2 = λ n le. low n (omega (arith, le, fewer)) in
       let go : Frame → FrameState = λ f. jumped p f.back (Lasting u ∷ []) t2 in
       let goes : escaped p b u t ≡ go f.frame =
-          ap (λ o. or_wrong o t (λ f. jumped p f.back (Lasting u ∷ []) (with_live t (older_than b t.live)))) c.is
-          ∙ ap (λ l. jumped p c.frame.back (Lasting u ∷ []) (with_live t l)) is
-          ∙ ap (λ n. jumped p n (Lasting u ∷ []) t2) c.back_is in
+      ap (λ o. or_wrong o t (λ f. jumped p f.back (Lasting u ∷ []) (with_live t (older_than b t.live)))) c.is
+      ∙ ap (λ l. jumped p c.frame.back (Lasting u ∷ []) (with_live t l)) is
+      ∙ ap (λ n. jumped p n (Lasting u ∷ []) t2) c.back_is in
       let back_to : returned_to p u t2 ≡ go f.frame = ap (λ o. or_wrong o t2 (λ f. if f.catch then wrong t2 else go f)) f.is ∙ ap (λ z. if z then wrong t2 else go f.frame) f.push in
       let final = returned P (Back pending ∷ waiting) v s in
       let back = back_arrives cps p laid Low links s t2 v u pending waiting push older r f h refl same made low2 in

@@ -1,41 +1,30 @@
 -- A CATCH ends, and its value goes on.
-use Rattle.std.proofs.Common.{◌≡◌, ℕ, zero, suc, ◌+◌, ◌*◌, ◌≤◌, ◌<◌, ◌⊎◌, Bool, true, false, if◌then◌else◌, List, [], ◌∷◌, ◌++◌, length, Option, Some, None, slice_get, refl, sym, ap, subst, ◌∙◌, arith, inl, inr, append-nil}
-use Rattle.program_runs.specs.Runs as runs
-use Rattle.t_base.specs.declared.basics.Var.{Var}
-use Rattle.t_base.specs.declared.builtins.Builtin.{Builtin}
-use Rattle.t_prim.specs.Values.{Val, shown_of}
-use Rattle.t_prim.specs.Kinds.{is_nil}
+use Rattle.std.proofs.Common.{◌≡◌, ℕ, ◌+◌, ◌*◌, ◌≤◌, true, false, if◌then◌else◌, List, [], ◌∷◌, ◌++◌, length, Option, Some, None, slice_get, refl, sym, ap, subst, ◌∙◌, arith, inl}
+use Rattle.t_prim.specs.Values.{Val}
 use Rattle.cps_ir.specs.declared.args.Arg.{Arg}
 use Rattle.cps_ir.specs.declared.terms.Cont.{Cont}
-use Rattle.cps_ir.specs.declared.terms.Cont.TheVariants as Continuation
 use Rattle.cps_ir.specs.declared.terms.Term.TheVariants as Node
 use Rattle.cps_ir.specs.declared.terms.Cps.{Cps}
-use Rattle.cps_ir.specs.States.{Scope, State, Program, marked, all_escape, At, Calling, Ended, going as going_to, ended as ended_to, Waiting, Live, with_waiting, Back, Pending, Joined}
-use Rattle.cps_ir.specs.Giving.{Way, Out, On, Lost, way, give, pushing}
+use Rattle.cps_ir.specs.States.{Scope, State, Program, marked, all_escape, Waiting, Live, with_waiting, Pending}
+use Rattle.cps_ir.specs.Giving.{way, give}
 use Rattle.cps_ir.specs.Running.{performed, closing_catch}
 use Rattle.frame_ir.specs.declared.args.Arg.{Arg as FrameArg}
 use Rattle.frame_ir.specs.declared.forms.FrameOp.{FrameOp}
 use Rattle.frame_ir.specs.declared.forms.FrameOp.TheVariants as Op
 use Rattle.frame_ir.specs.declared.forms.FrameEnd.{FrameEnd}
-use Rattle.frame_ir.specs.declared.forms.FrameEnd.TheVariants as Last
-use Rattle.frame_ir.specs.declared.forms.Block.{Block}
 use Rattle.frame_ir.specs.declared.forms.Frames.{Frames}
-use Rattle.frame_ir.specs.Values.{Value, Lasting, Frame, Env}
-use Rattle.frame_ir.specs.States.{Running, Calling as CallingAt, Ended as EndedAt, State as FrameState, going, wrong, counted, or_wrong, youngest, with_live, older_than_youngest, with_frame}
-use Rattle.frame_ir.specs.Arguments.{value_of, lasting_value, lasting_values, kept_values}
+use Rattle.frame_ir.specs.Values.{Frame, Env}
+use Rattle.frame_ir.specs.States.{Running, State as FrameState, going, wrong, counted, or_wrong, youngest, with_live, older_than_youngest}
 use Rattle.frame_ir.specs.Running.{step}
-use Rattle.layout_relation.specs.Links.{Zipped, Links, SameVal}
-use Rattle.layout_relation.specs.Contexts.{Context, Catching, Bare, Framed, Return, Purpose, ArmOf, Resumes}
-use Rattle.layout_relation.specs.Laid.{Sketch, IsFor, StartsApart, Prepares, Gives, IsLaidOut}
-use Rattle.layout_relation.specs.Related.{SameMade, SameCatch, Waits, waits_none, waits_back, waits_bare, waits_framed, same_term, same_call, same_end}
-use Rattle.layout_relation.proofs.Growing.{waits_grow}
+use Rattle.layout_relation.specs.Links.{Links}
+use Rattle.layout_relation.specs.Contexts.{Context, Catching, Bare, Framed}
+use Rattle.layout_relation.specs.Laid.{Sketch, Prepares, Gives, IsLaidOut}
+use Rattle.layout_relation.specs.Related.{SameMade, SameCatch, Waits, waits_none, waits_back, waits_bare, waits_framed}
 use Rattle.layout_relation.proofs.Bringing.{waits_behind}
 use Rattle.layout_relation.proofs.Stepping.{given_store}
-use Rattle.layout_relation.proofs.Paths.{Path, steps}
-use Rattle.layout_relation.proofs.Preparing.{Prepared}
-use Rattle.layout_relation.proofs.Arriving.{lasting_is, BlockAt, block_at}
-use Rattle.layout_relation.proofs.Handing.{pop_step, LowBelow, Reaches, reaches_after, reaches_step, reaches_more, give_moves, gives_arrives}
-use Rattle.layout_relation.proofs.Staged.{Staged, First, first, with_others}
+use Rattle.layout_relation.proofs.Paths.{steps}
+use Rattle.layout_relation.proofs.Handing.{pop_step, LowBelow, Reaches, reaches_after, give_moves, gives_arrives}
+use Rattle.layout_relation.proofs.Staged.{Staged, first}
 
 module _ (cps : Cps) (p : Frames) (laid : IsLaidOut cps p) (Low : ℕ → ℕ → Type 0) where
   abbrev w : Sketch

@@ -3,7 +3,7 @@
 -- Each block has a purpose. A term is laid out by the rest of a block: by the closures that its arguments make, by its own operation, and
 -- by what goes on with its value. Procedures have a code block, which fetches what they need from their closure, and go on in a block that
 -- begins the body. A continuation that is written out, and the k of a Join, give a frame at a call: the variables that are needed behind it.
-use Rattle.std.specs.Prelude.{◌≡◌, ℕ, suc, ◌+◌, ◌<◌, ◌≤◌, ◌==◌, nat_lt, Bool, true, false, List, [], ◌∷◌, ◌++◌, length, map, zip, Some, slice_get, IsSomeAnd, None, Option}
+use Rattle.std.specs.Prelude.{◌≡◌, ℕ, suc, ◌+◌, ◌<◌, ◌≤◌, ◌==◌, nat_lt, Bool, true, false, List, [], ◌∷◌, ◌++◌, length, map, zip, Some, slice_get, IsSomeAnd, None}
 use Rattle.std.specs.List.{AllByRecursion}
 use Rattle.t_base.specs.declared.basics.Var.{Var}
 use Rattle.t_base.specs.declared.builtins.Builtin.{Builtin}
