@@ -30,3 +30,4 @@ pub mod Matching
 pub mod Starting
 pub mod Keeping
 pub mod Smallness
+pub mod ExampleLaid

@@ -3,3 +3,4 @@ pub mod Contexts
 pub mod Laid
 pub mod Related
 pub mod Laws
+pub mod Examples
