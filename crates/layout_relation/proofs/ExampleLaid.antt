@@ -1,27 +1,23 @@
 -- The frames of a small program with a CATCH lay it out.
-use Rattle.std.proofs.Common.{◌≡◌, ℕ, zero, suc, ◌<◌, ◌≤◌, Bool, false, List, [], ◌∷◌, length, Some, None, Option, slice_get, refl, sym, subst, arith}
+use Rattle.std.proofs.Common.{◌≡◌, ℕ, zero, suc, ◌<◌, false, List, [], ◌∷◌, Some, None, slice_get, refl, subst, arith}
 use Rattle.std.specs.Prelude.{IsSomeAnd}
 use Rattle.std.specs.Global.{Global}
 use Rattle.t_base.specs.declared.builtins.Builtin.TheVariants.{Add}
 use Rattle.t_base.specs.declared.shared_parts.Const.TheVariants as Constant
 use Rattle.std.proofs.Common.{pos}
 use Rattle.cps_ir.specs.declared.args.Arg.TheVariants as Given
-use Rattle.cps_ir.specs.declared.terms.Term.TheVariants as Node
 use Rattle.cps_ir.specs.declared.terms.Cps.{Cps}
 use Rattle.cps_ir.specs.Parts.{is_assigned, walked_within}
 use Rattle.cps_ir.specs.Writing.{var, fix as given_fix, local, to, into, lam}
 use Rattle.cps_ir.specs.Examples.{catch_over_two}
-use Rattle.frame_ir.specs.declared.args.Arg.{Arg}
 use Rattle.frame_ir.specs.declared.args.Arg.TheVariants as Argument
-use Rattle.frame_ir.specs.declared.forms.FrameOp.{FrameOp}
 use Rattle.frame_ir.specs.declared.forms.FrameOp.TheVariants as Op
 use Rattle.frame_ir.specs.declared.forms.FrameEnd.TheVariants as Last
-use Rattle.frame_ir.specs.declared.forms.Block.{Block}
 use Rattle.frame_ir.specs.declared.forms.Frames.{Frames}
 use Rattle.frame_ir.specs.Writing.{fix, of, block}
-use Rattle.layout_relation.specs.Links.{IsIn, first, zip_none, zip_one}
+use Rattle.layout_relation.specs.Links.{first, zip_none, zip_one}
 use Rattle.layout_relation.specs.Contexts.{Meeting, Exits, NoExit, OwnExit, JoinExit, Context, Framed, Start, Return, Purpose, CodeOf, Begins, Resumes}
-use Rattle.layout_relation.specs.Laid.{Sketch, IsFor, fetches_none, same_const, same_var, same_global, Prepares, prepares_none, prepares_same, Awaits, awaits_lam, awaits_join, gives_out, gives_join, gives_here, goes_here, Lays, lays, lays_call, lays_prim, lays_join, lays_catch, lays_uncatch, lays_halt, CodeFits, BeginFits, ReturnFits, BlockFits, IsLaidOut}
+use Rattle.layout_relation.specs.Laid.{Sketch, IsFor, fetches_none, same_const, same_var, same_global, prepares_none, prepares_same, awaits_lam, awaits_join, gives_out, gives_join, gives_here, goes_here, Lays, lays, lays_call, lays_prim, lays_join, lays_catch, lays_uncatch, lays_halt, BlockFits}
 use Rattle.layout_relation.specs.Examples.{catch_frames, CatchIsLaidOut}
 
 -- the k of the Join behind the CATCH
