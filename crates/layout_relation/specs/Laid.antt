@@ -69,7 +69,7 @@ pub record IsNewIn (w : Sketch) (needs : List ℕ) (exits : Exits) (x : ℕ) : T
   pub apart : is_in needs x ≡ false
   pub unneeded : IsUnneeded exits x
 
--- ---- what is fetched, from a frame or from a closure, each variable once; `before` is held already, `apart` is a variable that stays
+-- ---- what is fetched, from a frame or from a closure: `before` is held already, `behind` is held then, `apart` is a variable that stays
 
 pub data Fetches (get : Var → ℕ → FrameOp) (apart : ℕ) (kept : List ℕ) : List (ℕ × ℕ) → List (ℕ × ℕ) → List FrameOp → Type 0 where
   fetches_none : (vars : List (ℕ × ℕ)) → Fetches get apart kept vars vars []
@@ -85,7 +85,7 @@ made_by [] = []
 made_by (Op.Closure to code kept at ∷ ops) = to.0 ∷ made_by ops
 made_by (op ∷ ops) = made_by ops
 
--- a new closure of a LAMBDA on the heap, in a variable that is in use neither before nor by the closures behind it
+-- a new closure of a LAMBDA on the heap, which keeps what the LAMBDA needs, in a variable that isn't made again by the operations behind it
 pub record MakesClosure (cps : Cps) (w : Sketch) (vars : List (ℕ × ℕ)) (l : ℕ) (to : Var) (code : ℕ) (kept : List Var) (behind : List FrameOp) : Type 0 where
   pub lambda : nat_lt l (first_lams cps) ≡ false
   pub runs : IsFor w code (CodeOf l)
@@ -97,7 +97,7 @@ abbrev pub is_closure : FrameOp → Bool
 is_closure (Op.Closure to code kept at) = true
 is_closure _ = false
 
--- closures directly behind each other are made at once, so those of one term are
+-- closures directly behind each other are made at once, so what follows those of a term begins with another operation
 abbrev pub StartsApart : List FrameOp → Type 0
 StartsApart [] = Unit {0}
 StartsApart (op ∷ ops) = is_closure op ≡ false
