@@ -1,0 +1,9 @@
+//! From programs of words whose variables have homes to items of code.
+#![tactic(auto)]
+
+mod arithmetic;
+mod bytes;
+mod homes;
+mod operands;
+mod services;
+mod storage;

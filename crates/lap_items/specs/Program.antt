@@ -1,0 +1,47 @@
+-- The items of a whole program of words whose variables have homes.
+use Rattle.std.specs.Prelude.{◌≡◌, ℕ, ◌+◌, if◌then◌else◌, List, [], ◌∷◌, ◌++◌, map}
+use Rattle.std.specs.List.{flat_map}
+use Rattle.t_base.specs.declared.basics.Var.{Var}
+use Rattle.word_ir.specs.declared.placed.Home.{Home}
+use Rattle.word_ir.specs.declared.placed.Placed.{Placed}
+use Rattle.word_ir.specs.declared.words.WordBlock.{WordBlock}
+use Rattle.parallel_moves.specs.declared.Move.{Move}
+use Rattle.parallel_moves.specs.declared.OneMove.{OneMove}
+use Rattle.m68020_asm.specs.declared.item.Item.{Item}
+use Rattle.m68020_asm.specs.declared.item.Item.TheVariants.{Label}
+use Rattle.lap_items.specs.Homes.{convention, number_of_home}
+use Rattle.lap_items.specs.Operations.{op_items}
+use Rattle.lap_items.specs.Moves.{moved_items, DoesAtOnce}
+use Rattle.lap_items.specs.Ends.{is_taken, homes_of_params, end_moves, end_items}
+
+-- each from one list to the home at its place in the other
+abbrev pub moves_between : List Home → List Home → List Move
+moves_between [] places = []
+moves_between (from ∷ sources) [] = []
+moves_between (from ∷ sources) (to ∷ places) = record { from = number_of_home from; to = number_of_home to } ∷ moves_between sources places
+
+-- a block whose code is taken begins with its parameters where an Enter puts them
+abbrev pub first_moves : Placed → ℕ → WordBlock → List Move
+first_moves placed b block = if is_taken placed.words b then moves_between convention (homes_of_params placed.at.items block) else []
+
+abbrev pub ops_items : Placed → WordBlock → List Item
+ops_items placed block = flat_map (op_items placed.at.items) block.ops.items
+
+-- The items of a block: its label, the moves of its parameters, its operations and its end, with some moves that do at once what is to
+-- be done at once.
+pub record IsBlock (placed : Placed) (b : ℕ) (block : WordBlock) (items : List Item) : Type 0 where
+  pub first : List OneMove
+  pub last : List OneMove
+  pub enters : DoesAtOnce (first_moves placed b block) first
+  pub leaves : DoesAtOnce (end_moves placed block.last) last
+  pub same : items ≡ Label b ∷ moved_items first ++ ops_items placed block ++ end_items placed block.last last
+
+-- those of blocks, the first of which has this number
+abbrev pub AreBlocks : Placed → ℕ → List WordBlock → List Item → Type 0
+AreBlocks placed b [] items = items ≡ []
+AreBlocks placed b (block ∷ blocks) items =
+    (front : List Item) × (rest : List Item) × (items ≡ front ++ rest) × IsBlock placed b block front × AreBlocks placed (b + 1) blocks rest
+
+-- The items of the program: those of its blocks in order, each with its number as its label.
+pub record IsEmitted (placed : Placed) (items : List Item) : Type 0 where
+  pub blocks : AreBlocks placed 0 placed.words.blocks.items items
