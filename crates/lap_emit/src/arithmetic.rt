@@ -233,6 +233,7 @@ fn result_in(kind: Arith) -> u8
 }
 
 /// The result of two operands goes into a home.
+#[tactic(auto, unfolding(lap_items::specs::Arithmetic::arith_items))]
 pub fn push_arith(
     items: &mut Vec<Item>,
     homes: &[Home],

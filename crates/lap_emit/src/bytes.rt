@@ -58,6 +58,7 @@ fn push_address(items: &mut Vec<Item>, from: Ea) -> Result<(), Memory>
     )
 }
 
+#[tactic(auto, unfolding(lap_items::specs::Storage::byte_base_items))]
 fn push_byte_base(
     items: &mut Vec<Item>,
     homes: &[Home],
@@ -101,6 +102,7 @@ fn indexed(base: u8, offset: i64) -> Ea
     }
 }
 
+#[tactic(auto, unfolding(lap_items::specs::Storage::byte_of))]
 fn byte_of(x: Operand, offset: i32) -> Ea
     ensures { result ≡ byte_of x offset }
 {
@@ -114,6 +116,7 @@ fn byte_of(x: Operand, offset: i32) -> Ea
 }
 
 /// The byte at an address goes into a home.
+#[tactic(auto, unfolding(lap_items::specs::Storage::read_byte_items))]
 pub fn push_read_byte(
     items: &mut Vec<Item>,
     homes: &[Home],

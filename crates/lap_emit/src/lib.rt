@@ -5,5 +5,6 @@ mod arithmetic;
 mod bytes;
 mod homes;
 mod operands;
+mod operations;
 mod services;
 mod storage;

@@ -33,6 +33,7 @@ fn push_copy(items: &mut Vec<Item>, from: Ea, to: u8) -> Result<(), Memory>
     )
 }
 
+#[tactic(auto, unfolding(lap_items::specs::Services::with_one_items))]
 fn push_with_one(
     items: &mut Vec<Item>,
     homes: &[Home],
@@ -53,6 +54,7 @@ fn push_with_one(
     }
 }
 
+#[tactic(auto, unfolding(lap_items::specs::Services::fault_items))]
 fn push_fault_of_program(
     items: &mut Vec<Item>,
     homes: &[Home],
@@ -68,6 +70,7 @@ fn push_fault_of_program(
     push_plain(items, Instr::Trap(3))
 }
 
+#[tactic(auto, unfolding(lap_items::specs::Services::fault_items))]
 fn push_fault(items: &mut Vec<Item>, homes: &[Home], args: &[Operand]) -> Result<(), Memory>
     ensures { OnOk result (items.new.items ≡ items.old.items ++ fault_items homes.now args.now) }
 {
@@ -131,6 +134,7 @@ fn push_left(items: &mut Vec<Item>, stack: bool) -> Result<(), Memory>
     }
 }
 
+#[tactic(auto, unfolding(lap_items::specs::Services::full_items))]
 fn push_full(items: &mut Vec<Item>, homes: &[Home], args: &[Operand]) -> Result<(), Memory>
     ensures { OnOk result (items.new.items ≡ items.old.items ++ full_items homes.now args.now) }
 {
@@ -145,6 +149,7 @@ fn push_full(items: &mut Vec<Item>, homes: &[Home], args: &[Operand]) -> Result<
 }
 
 /// A service with its operands.
+#[tactic(auto, unfolding(lap_items::specs::Services::service_items))]
 pub fn push_service(
     items: &mut Vec<Item>,
     homes: &[Home],

@@ -145,6 +145,7 @@ fn access_of(homes: &[Home], x: Operand, offset: i32) -> Ea
 }
 
 /// The word at an address goes into a home.
+#[tactic(auto, unfolding(lap_items::specs::Storage::read_items))]
 pub fn push_read(
     items: &mut Vec<Item>,
     homes: &[Home],
@@ -185,6 +186,7 @@ fn kept_of(homes: &[Home], x: Operand) -> Ea
 }
 
 /// A word is stored at an address.
+#[tactic(auto, unfolding(lap_items::specs::Storage::write_items))]
 pub fn push_write(
     items: &mut Vec<Item>,
     homes: &[Home],

@@ -59,5 +59,5 @@ result_in (arith.Shift count) = 7
 result_in arith.And = 7
 result_in arith.Or = 7
 
-abbrev pub arith_items : List Home → Home → Arith → Operand → Operand → ℕ → List Item
+unfoldable pub arith_items : List Home → Home → Arith → Operand → Operand → ℕ → List Item
 arith_items homes to kind a b over = load_items homes a 7 ++ computing_items homes kind b over ++ put_into (D (result_in kind)) to ∷ []

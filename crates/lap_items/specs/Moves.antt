@@ -22,7 +22,7 @@ moves_to homes (operand.Code block ∷ args) (to ∷ places) = moves_to homes ar
 moves_to homes (operand.Slot bytes ∷ args) (to ∷ places) = moves_to homes args places
 
 -- an argument that isn't a variable goes to its place
-abbrev pub filling : List Home → Operand → Home → List Item
+unfoldable pub filling : List Home → Operand → Home → List Item
 filling homes (operand.Var v) to = []
 filling homes (operand.Word n) to = put_into (source_of homes (operand.Word n)) to ∷ []
 filling homes (operand.Static place) to = put_into (source_of homes (operand.Static place)) to ∷ []

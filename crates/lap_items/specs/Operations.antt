@@ -16,11 +16,11 @@ use Rattle.lap_items.specs.Storage.{read_items, read_byte_items, write_items}
 use Rattle.lap_items.specs.Arithmetic.{arith_items}
 use Rattle.lap_items.specs.Services.{service_items}
 
-abbrev pub move_items : List Home → Home → Operand → List Item
+unfoldable pub move_items : List Home → Home → Operand → List Item
 move_items homes to from = source_items from ++ put_into (source_of homes from) to ∷ []
 
 -- A6 - A4 is what is left.
-abbrev pub take_items : List Home → Home → Operand → ℕ → List Item
+unfoldable pub take_items : List Home → Home → Operand → ℕ → List Item
 take_items homes to bytes full =
     load_items homes bytes 6 ++ Plain (MoveL (A 6) (D 7)) ∷ Plain (SubL (A 4) 7) ∷ Plain (CmpL (D 6) 7) ∷ Branch Cs full
     ∷ Plain (MoveL (A 4) (D 7)) ∷ Plain (AddaL (D 6) 4) ∷ put_into (D 7) to ∷ []
@@ -30,12 +30,12 @@ abbrev pub bytes_of_words : ℕ → ℕ
 bytes_of_words words = min (4 * words) (2 ^ 32 - 1)
 
 -- A7 - A5 is what is left. A7 is lowered by one instruction.
-abbrev pub push_items : ℕ → ℕ → List Item
+unfoldable pub push_items : ℕ → ℕ → List Item
 push_items words full =
     Plain (MoveL (A 7) (D 7)) ∷ Plain (SubL (A 5) 7) ∷ Plain (CmpiL (bytes_of_words words) (D 7)) ∷ Branch Cs full
     ∷ Plain (SubaL (Imm (bytes_of_words words)) 7) ∷ []
 
-abbrev pub op_items : List Home → WordOp → List Item
+unfoldable pub op_items : List Home → WordOp → List Item
 op_items homes (op.Move to from) = move_items homes (home_of homes to) from
 op_items homes (op.Load to base offset) = read_items homes base offset (home_of homes to)
 op_items homes (op.LoadByte to base index offset) = read_byte_items homes base index offset (home_of homes to)

@@ -1,5 +1,5 @@
 -- The items of a whole program of words whose variables have homes.
-use Rattle.std.specs.Prelude.{◌≡◌, ℕ, ◌+◌, if◌then◌else◌, List, [], ◌∷◌, ◌++◌, map}
+use Rattle.std.specs.Prelude.{◌≡◌, ℕ, ◌+◌, if◌then◌else◌, List, [], ◌∷◌, ◌++◌, slice_get, Some}
 use Rattle.std.specs.List.{flat_map}
 use Rattle.t_base.specs.declared.basics.Var.{Var}
 use Rattle.word_ir.specs.declared.placed.Home.{Home}
@@ -7,6 +7,7 @@ use Rattle.word_ir.specs.declared.placed.Placed.{Placed}
 use Rattle.word_ir.specs.declared.words.WordBlock.{WordBlock}
 use Rattle.parallel_moves.specs.declared.Move.{Move}
 use Rattle.parallel_moves.specs.declared.OneMove.{OneMove}
+use Rattle.parallel_moves.specs.Moves.{AreParallel}
 use Rattle.m68020_asm.specs.declared.item.Item.{Item}
 use Rattle.m68020_asm.specs.declared.item.Item.TheVariants.{Label}
 use Rattle.lap_items.specs.Homes.{convention, number_of_home}
@@ -21,7 +22,7 @@ moves_between (from ∷ sources) [] = []
 moves_between (from ∷ sources) (to ∷ places) = record { from = number_of_home from; to = number_of_home to } ∷ moves_between sources places
 
 -- a block whose code is taken begins with its parameters where an Enter puts them
-abbrev pub first_moves : Placed → ℕ → WordBlock → List Move
+unfoldable pub first_moves : Placed → ℕ → WordBlock → List Move
 first_moves placed b block = if is_taken placed.words b then moves_between convention (homes_of_params placed.at.items block) else []
 
 abbrev pub ops_items : Placed → WordBlock → List Item
@@ -41,6 +42,11 @@ abbrev pub AreBlocks : Placed → ℕ → List WordBlock → List Item → Type 
 AreBlocks placed b [] items = items ≡ []
 AreBlocks placed b (block ∷ blocks) items =
     (front : List Item) × (rest : List Item) × (items ≡ front ++ rest) × IsBlock placed b block front × AreBlocks placed (b + 1) blocks rest
+
+-- what is done at once can be: no place is the target of two moves
+pub record CanMove (placed : Placed) : Type 0 where
+  pub enters : (b : ℕ) (block : WordBlock) → slice_get placed.words.blocks.items b ≡ Some block → AreParallel (first_moves placed b block)
+  pub leaves : (b : ℕ) (block : WordBlock) → slice_get placed.words.blocks.items b ≡ Some block → AreParallel (end_moves placed block.last)
 
 -- The items of the program: those of its blocks in order, each with its number as its label.
 pub record IsEmitted (placed : Placed) (items : List Item) : Type 0 where

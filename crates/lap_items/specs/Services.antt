@@ -14,14 +14,14 @@ abbrev pub no_service : List Item
 no_service = Plain Illegal ∷ []
 
 -- the operand in D0
-abbrev pub with_one_items : List Home → ℕ → List Operand → List Item
+unfoldable pub with_one_items : List Home → ℕ → List Operand → List Item
 with_one_items homes number [] = no_service
 with_one_items homes number (a ∷ []) =
     Plain (MoveL (D 0) (D 7)) ∷ source_items a ++ Plain (MoveL (source_of homes a) (D 0)) ∷ Plain (Trap number) ∷ Plain (MoveL (D 7) (D 0)) ∷ []
 with_one_items homes number (a ∷ b ∷ rest) = no_service
 
 -- the number of a fault in D0, and a fixnum in D1
-abbrev pub fault_items : List Home → List Operand → List Item
+unfoldable pub fault_items : List Home → List Operand → List Item
 fault_items homes [] = no_service
 fault_items homes (a ∷ []) = load_items homes a 0 ++ Plain (Trap 3) ∷ []
 fault_items homes (a ∷ b ∷ []) = load_items homes b 6 ++ load_items homes a 7 ++ Plain (MoveL (D 6) (D 1)) ∷ Plain (MoveL (D 7) (D 0)) ∷ Plain (Trap 3) ∷ []
@@ -41,13 +41,13 @@ left_items stack =
     else Plain (MoveL (A 6) (D 1)) ∷ Plain (SubL (A 4) 1) ∷ Plain (Moveq (pos 0) 2) ∷ []
 
 -- what was asked in D0
-abbrev pub full_items : List Home → List Operand → List Item
+unfoldable pub full_items : List Home → List Operand → List Item
 full_items homes [] = no_service
 full_items homes (a ∷ []) = no_service
 full_items homes (a ∷ kind ∷ []) = load_items homes a 0 ++ left_items (is_one kind) ++ Plain (Trap 4) ∷ []
 full_items homes (a ∷ b ∷ c ∷ rest) = no_service
 
-abbrev pub service_items : List Home → ℕ → List Operand → List Item
+unfoldable pub service_items : List Home → ℕ → List Operand → List Item
 service_items homes number args =
     if number == 3 then fault_items homes args
     else if number == 4 then full_items homes args

@@ -59,7 +59,7 @@ access_of homes (operand.Slot bytes) offset = from_register 7 (pos bytes +ℤ of
 access_of homes (operand.Var v) offset = from_register (base_of (home_of homes v)) offset
 access_of homes (operand.Code block) offset = from_register 3 offset
 
-abbrev pub read_items : List Home → Operand → ℤ → Home → List Item
+unfoldable pub read_items : List Home → Operand → ℤ → Home → List Item
 read_items homes base offset to = access_items homes base offset ++ put_into (access_of homes base offset) to ∷ []
 
 -- a word that is made in A3 goes to D7 before the address is made
@@ -77,7 +77,7 @@ kept_of homes (operand.Var v) = source_of homes (operand.Var v)
 kept_of homes (operand.Word n) = source_of homes (operand.Word n)
 kept_of homes (operand.Static place) = source_of homes (operand.Static place)
 
-abbrev pub write_items : List Home → Operand → ℤ → Operand → List Item
+unfoldable pub write_items : List Home → Operand → ℤ → Operand → List Item
 write_items homes base offset from =
     kept_items homes from ++ access_items homes base offset ++ Plain (MoveL (kept_of homes from) (access_of homes base offset)) ∷ []
 
@@ -91,21 +91,21 @@ abbrev pub short_of : ℤ → ℤ
 short_of offset = if fits 128 offset then offset else pos 0
 
 -- the address goes into A3, or is so far from A7
-abbrev pub byte_base_items : List Home → Operand → ℤ → List Item
+unfoldable pub byte_base_items : List Home → Operand → ℤ → List Item
 byte_base_items homes (operand.Slot bytes) offset = index_items (pos bytes +ℤ offset) (sum_of bytes (unsigned offset))
 byte_base_items homes (operand.Var v) offset = Plain (MoveaL (source_of homes (operand.Var v)) 3) ∷ index_items offset (unsigned offset)
 byte_base_items homes (operand.Word n) offset = Plain (MoveaL (source_of homes (operand.Word n)) 3) ∷ index_items offset (unsigned offset)
 byte_base_items homes (operand.Static place) offset = Plain (MoveaL (source_of homes (operand.Static place)) 3) ∷ index_items offset (unsigned offset)
 byte_base_items homes (operand.Code block) offset = CodeAddr 3 block ∷ index_items offset (unsigned offset)
 
-abbrev pub byte_of : Operand → ℤ → Ea
+unfoldable pub byte_of : Operand → ℤ → Ea
 byte_of (operand.Slot bytes) offset = ea.Index 7 (index_d 7) (short_of (pos bytes +ℤ offset))
 byte_of (operand.Var v) offset = ea.Index 3 (index_d 7) (short_of offset)
 byte_of (operand.Word n) offset = ea.Index 3 (index_d 7) (short_of offset)
 byte_of (operand.Static place) offset = ea.Index 3 (index_d 7) (short_of offset)
 byte_of (operand.Code block) offset = ea.Index 3 (index_d 7) (short_of offset)
 
-abbrev pub read_byte_items : List Home → Operand → Operand → ℤ → Home → List Item
+unfoldable pub read_byte_items : List Home → Operand → Operand → ℤ → Home → List Item
 read_byte_items homes base index offset to =
     load_items homes index 7 ++ byte_base_items homes base offset
     ++ Plain (Moveq (pos 0) 6) ∷ Plain (MoveB (byte_of base offset) (D 6)) ∷ put_into (D 6) to ∷ []
