@@ -66,6 +66,18 @@ pub fn put_into(from: Ea, home: Home) -> Item
     }
 }
 
+/// The number of a home, for moves that are done at once.
+pub fn number_of_home(home: Home) -> u32
+    ensures { result ≡ number_of_home home }
+{
+    match home {
+        Home::D(i) => 4 * u32::from(i),
+        Home::A(i) => 4 * u32::from(i) + 1,
+        Home::Static(place) => place.wrapping_mul(4) + 2,
+        Home::Stack(n) => n.wrapping_mul(4) + 3,
+    }
+}
+
 /// The home of a number, or D7 for the place between them.
 pub fn home_at(number: u32) -> Home
     ensures { result ≡ home_at number }

@@ -4,6 +4,7 @@ use Rattle.t_base.specs.declared.basics.Var.{Var}
 use Rattle.word_ir.specs.declared.placed.Home.{Home}
 use Rattle.word_ir.specs.declared.placed.Home.TheVariants as home
 use Rattle.word_ir.specs.Storage.{static_at}
+use Rattle.word_ir.specs.Word.{wrap}
 use Rattle.word_ir.specs.WholePlaced.{farthest}
 use Rattle.parallel_moves.specs.Moves.{scratch}
 use Rattle.m68020_code.specs.declared.instr.Ea.{Ea}
@@ -35,8 +36,8 @@ put_into from (home.Static place) = Plain (MoveL from (at_home (home.Static plac
 abbrev pub number_of_home : Home → ℕ
 number_of_home (home.D i) = 4 * i
 number_of_home (home.A i) = 4 * i + 1
-number_of_home (home.Static place) = 4 * place + 2
-number_of_home (home.Stack n) = 4 * n + 3
+number_of_home (home.Static place) = wrap (4 * place) + 2
+number_of_home (home.Stack n) = wrap (4 * n) + 3
 
 -- the place between them is D7
 abbrev pub home_at : ℕ → Home

@@ -10,16 +10,17 @@ use Rattle.parallel_moves.specs.declared.OneMove.{OneMove}
 use Rattle.parallel_moves.specs.Moves.{AreParallel}
 use Rattle.m68020_asm.specs.declared.item.Item.{Item}
 use Rattle.m68020_asm.specs.declared.item.Item.TheVariants.{Label}
-use Rattle.lap_items.specs.Homes.{convention, number_of_home}
+use Rattle.lap_items.specs.Homes.{convention}
 use Rattle.lap_items.specs.Operations.{op_items}
-use Rattle.lap_items.specs.Moves.{moved_items, DoesAtOnce}
+use Rattle.lap_items.specs.Moves.{each_pair, move_between, moved_items, DoesAtOnce}
 use Rattle.lap_items.specs.Ends.{is_taken, homes_of_params, end_moves, end_items}
 
--- each from one list to the home at its place in the other
+abbrev pub single_move : Home → Home → List Move
+single_move from to = move_between from to ∷ []
+
+-- each from a home in one list to that at its place in the other
 abbrev pub moves_between : List Home → List Home → List Move
-moves_between [] places = []
-moves_between (from ∷ sources) [] = []
-moves_between (from ∷ sources) (to ∷ places) = record { from = number_of_home from; to = number_of_home to } ∷ moves_between sources places
+moves_between sources places = each_pair single_move sources places
 
 -- a block whose code is taken begins with its parameters where an Enter puts them
 unfoldable pub first_moves : Placed → ℕ → WordBlock → List Move
