@@ -7,3 +7,4 @@ pub mod Operations
 pub mod Moves
 pub mod Ends
 pub mod Program
+pub mod Laws

@@ -1,10 +1,8 @@
-//! Laws of the items.
+//! Laws of the items, as contracts of functions that do nothing.
 
-ghost use Rattle.std.specs.Prelude.{◌≡◌};
-ghost use Rattle.word_ir.specs.declared.placed.Placed.{Placed};
-ghost use Rattle.lap_items.specs.Program.{IsEmitted};
+ghost use Rattle.lap_items.specs.Laws.{WholeCanMove};
 
-/// To come.
-pub fn emitted()
-    ensures { (placed : Placed) → placed ≡ placed }
+/// In a whole program no two arguments of a jump, an Enter or a block's start go to one home, and no home is the place between them.
+pub fn whole_can_move()
+    ensures { WholeCanMove }
 {}
