@@ -1,5 +1,5 @@
 -- Two lists walked together.
-use Rattle.std.proofs.Common.{◌≡◌, ◌<◌, ◌≤◌, ◌+◌, min, List, [], ◌∷◌, ◌++◌, ℕ, zero, suc, refl, ap, ◌∙◌, sym, get_or, length, take, append_assoc, append-nil, arith}
+use Rattle.std.proofs.Common.{◌≡◌, ◌<◌, ◌+◌, min, List, [], ◌∷◌, ◌++◌, ℕ, zero, suc, refl, ap, ◌∙◌, sym, get_or, length, take, append_assoc, append-nil, arith}
 use Rattle.lap_items.specs.Moves.{each_pair}
 
 -- One pair more, and all pairs.

@@ -1,5 +1,5 @@
 -- What is written, one part behind another.
-use Rattle.std.proofs.Common.{◌≡◌, ◌+◌, ◌<◌, zero, suc, get_or, take, length, append-nil, List, [], ◌∷◌, ◌++◌, ap, subst, refl, ℕ, arith, ◌∙◌, sym, append_assoc}
+use Rattle.std.proofs.Common.{◌≡◌, ◌+◌, ◌<◌, suc, get_or, take, length, append-nil, List, [], ◌∷◌, ◌++◌, ap, subst, refl, ℕ, arith, ◌∙◌, sym, append_assoc}
 use Rattle.std.proofs.lemmas.List.{take_more, length-take}
 use Rattle.std.specs.Prelude.{Result, Ok, Err, OnOk}
 use Rattle.std.specs.List.{flat_map}

@@ -88,12 +88,7 @@ fn push_shift(items: &mut Vec<Item>, count: i8, over: u32) -> Result<(), Memory>
     }
 }
 
-fn push_division(
-    items: &mut Vec<Item>,
-    homes: &[Home],
-    b: Operand,
-    over: u32,
-) -> Result<(), Memory>
+fn push_division(items: &mut Vec<Item>, homes: &[Home], b: Operand, over: u32) -> Result<(), Memory>
     ensures { OnOk result (items.new.items ≡ items.old.items ++ load_items homes.now b 6 ++ Plain (DivslL (D 6) 7 6) ∷ Branch Vs over ∷ []) }
 {
     push_load(items, homes, b, FIRST_WORK)?;
@@ -109,12 +104,7 @@ fn push_division(
 }
 
 #[tactic(auto, unfolding(lap_items::specs::Arithmetic::computing_items))]
-fn push_sum(
-    items: &mut Vec<Item>,
-    homes: &[Home],
-    b: Operand,
-    over: u32,
-) -> Result<(), Memory>
+fn push_sum(items: &mut Vec<Item>, homes: &[Home], b: Operand, over: u32) -> Result<(), Memory>
     ensures { OnOk result (items.new.items ≡ items.old.items ++ computing_items homes.now Add b over) }
 {
     push_source(items, b)?;
@@ -149,12 +139,7 @@ fn push_difference(
 }
 
 #[tactic(auto, unfolding(lap_items::specs::Arithmetic::computing_items))]
-fn push_product(
-    items: &mut Vec<Item>,
-    homes: &[Home],
-    b: Operand,
-    over: u32,
-) -> Result<(), Memory>
+fn push_product(items: &mut Vec<Item>, homes: &[Home], b: Operand, over: u32) -> Result<(), Memory>
     ensures { OnOk result (items.new.items ≡ items.old.items ++ computing_items homes.now Mul b over) }
 {
     push_settled(items, homes, b)?;

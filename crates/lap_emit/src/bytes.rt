@@ -11,7 +11,8 @@ ghost use Rattle.lap_items.specs.Storage.{index_items, short_of, byte_base_items
 
 use crate::homes::{TOP, put_into};
 use crate::operands::{
-    FIRST_WORK, SECOND_WORK, WORK_ADDRESS, index_d, push_item, push_load, push_plain, push_source, source_of,
+    FIRST_WORK, SECOND_WORK, WORK_ADDRESS, index_d, push_item, push_load, push_plain, push_source,
+    source_of,
 };
 use crate::storage::moved;
 use m68020_asm::Item;

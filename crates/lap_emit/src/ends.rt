@@ -228,13 +228,7 @@ fn push_jump(
     ensures { OnOk result (AddsEnd placed.now (Jump block args.now) items.old.items items.new.items) }
 {
     let places = places_of(alloc, marks, placed, block)?;
-    push_arguments(
-        alloc,
-        items,
-        placed.at.as_slice(),
-        args,
-        places.as_slice(),
-    )?;
+    push_arguments(alloc, items, placed.at.as_slice(), args, places.as_slice())?;
     push_item(items, Item::Branch(Cond::Bra, block))
 }
 

@@ -1,7 +1,7 @@
 //! Arguments go to their homes at once.
 
-ghost use Rattle.std.specs.Prelude.{◌≡◌, ◌∷◌, [], ◌++◌, IfOk, OnOk};
-ghost use Rattle.parallel_moves.specs.Moves.{AreParallel};
+ghost use Rattle.std.specs.Prelude.{◌≡◌, ◌≢◌, ◌≤◌, ◌*◌, ℕ, Bool, IsTrue, ◌∷◌, [], ◌++◌, length, IfOk, OnOk};
+ghost use Rattle.parallel_moves.specs.Moves.{scratch, after, at_once, AreParallel, MovesPass, StepsPass};
 ghost use Rattle.lap_items.specs.Moves.{move_between, moving, moves_to, filling, fill_items, one_item, moved_items};
 ghost use Rattle.lap_items.specs.Program.{single_move, moves_between};
 ghost use Rattle.lap_emit.specs.Written.{AddsMoves, AddsArguments};
@@ -24,12 +24,7 @@ fn move_between(from: Home, to: Home) -> Move
 }
 
 #[tactic(auto, unfolding(lap_items::specs::Moves::moving))]
-fn push_moving(
-    moves: &mut Vec<Move>,
-    homes: &[Home],
-    x: Operand,
-    to: Home,
-) -> Result<(), Memory>
+fn push_moving(moves: &mut Vec<Move>, homes: &[Home], x: Operand, to: Home) -> Result<(), Memory>
     ensures { OnOk result (moves.new.items ≡ moves.old.items ++ moving homes.now x to) }
 {
     match x {
@@ -67,11 +62,7 @@ fn push_between(moves: &mut Vec<Move>, from: Home, to: Home) -> Result<(), Memor
 }
 
 /// The moves from homes to homes.
-pub fn moves_between(
-    alloc: Global,
-    sources: &[Home],
-    places: &[Home],
-) -> Result<Vec<Move>, Memory>
+pub fn moves_between(alloc: Global, sources: &[Home], places: &[Home]) -> Result<Vec<Move>, Memory>
     ensures { IfOk result (λ moves. moves.items ≡ moves_between sources.now places.now) }
 {
     let mut moves = Vec::new(alloc);
@@ -97,33 +88,37 @@ fn push_moved(items: &mut Vec<Item>, done: &[OneMove]) -> Result<(), Memory>
     Ok(())
 }
 
+/// Moves that, one after another, have the effect of all at once.
+fn one_by_one(alloc: Global, moves: &[Move]) -> Result<Vec<OneMove>, Memory>
+    requires { AreParallel moves.now }
+    ensures effect { IfOk result (λ done. (holds : ℕ → ℕ) (p : ℕ) → p ≢ scratch → after done.items holds p ≡ at_once moves.now holds p) }
+    ensures places { IfOk result (λ done. (test : ℕ → Bool) → IsTrue (test scratch) → MovesPass test moves.now → StepsPass test done.items) }
+    ensures few { IfOk result (λ done. length done.items ≤ 3 * length moves.now) }
+{
+    sequence(alloc, moves)
+}
+
 /// Does moves at once.
-pub fn push_at_once(
-    alloc: Global,
-    items: &mut Vec<Item>,
-    moves: &[Move],
-) -> Result<(), Memory>
+pub fn push_at_once(alloc: Global, items: &mut Vec<Item>, moves: &[Move]) -> Result<(), Memory>
     requires { AreParallel moves.now }
     ensures { OnOk result (AddsMoves moves.now items.old.items items.new.items) }
 {
-    let done = sequence(alloc, moves)?;
+    let done = one_by_one(alloc, moves)?;
     push_moved(items, done.as_slice())
 }
 
 #[tactic(auto, unfolding(lap_items::specs::Moves::filling))]
-fn push_filling(
-    items: &mut Vec<Item>,
-    homes: &[Home],
-    x: Operand,
-    to: Home,
-) -> Result<(), Memory>
+fn push_filling(items: &mut Vec<Item>, homes: &[Home], x: Operand, to: Home) -> Result<(), Memory>
     ensures { OnOk result (items.new.items ≡ items.old.items ++ filling homes.now x to) }
 {
     match x {
         Operand::Var(_) => Ok(()),
         Operand::Word(n) => push_item(items, put_into(source_of(homes, Operand::Word(n)), to)),
         Operand::Static(place) => {
-            push_item(items, put_into(source_of(homes, Operand::Static(place)), to))
+            push_item(
+                items,
+                put_into(source_of(homes, Operand::Static(place)), to),
+            )
         }
         Operand::Code(block) => {
             push_source(items, Operand::Code(block))?;

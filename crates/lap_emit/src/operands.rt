@@ -15,6 +15,7 @@ pub const WORK_ADDRESS: u8 = 3;
 
 /// The data registers for the code's own work.
 pub const FIRST_WORK: u8 = 6;
+
 pub const SECOND_WORK: u8 = 7;
 
 /// All of a data register as an index.

@@ -23,7 +23,9 @@ use word_ir::{Home, Operand, WordOp};
 
 /// The next free address of the heap, and the stack's and the heap's limits.
 const NEXT: u8 = 4;
+
 const STACK_LIMIT: u8 = 5;
+
 const HEAP_LIMIT: u8 = 6;
 
 /// The bytes of so many words, or as many as a long word holds.
@@ -34,12 +36,7 @@ fn bytes_of_words(words: u32) -> u32
 }
 
 #[tactic(auto, unfolding(lap_items::specs::Operations::move_items))]
-fn push_move(
-    items: &mut Vec<Item>,
-    homes: &[Home],
-    to: Home,
-    from: Operand,
-) -> Result<(), Memory>
+fn push_move(items: &mut Vec<Item>, homes: &[Home], to: Home, from: Operand) -> Result<(), Memory>
     ensures { OnOk result (items.new.items ≡ items.old.items ++ move_items homes.now to from) }
 {
     push_source(items, from)?;

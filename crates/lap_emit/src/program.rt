@@ -101,8 +101,9 @@ fn push_blocks(
 /// is taken, its operations, and its end.
 ///
 /// It takes time linear in the program. An error means that memory ran out, or numbers of labels did.
+#[tactic(auto, using(lap_items::proofs::Distinct::whole_can_move))]
 pub fn emit(alloc: Global, placed: &Placed) -> Result<Vec<Item>, Memory>
-    requires { CanMove placed.now }
+    requires { IsWholePlaced placed.now }
     ensures { IfOk result (λ items. IsEmitted placed.now items.items) }
 {
     let marks = taken_marks(alloc, &placed.words)?;

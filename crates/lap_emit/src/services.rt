@@ -7,9 +7,7 @@ ghost use Rattle.m68020_asm.specs.declared.item.Item.TheVariants.{Plain};
 ghost use Rattle.lap_items.specs.Operands.{source_items, source_of};
 ghost use Rattle.lap_items.specs.Services.{no_service, with_one_items, fault_items, is_one, left_items, full_items, service_items};
 
-use crate::operands::{
-    FIRST_WORK, SECOND_WORK, push_load, push_plain, push_source, source_of,
-};
+use crate::operands::{FIRST_WORK, SECOND_WORK, push_load, push_plain, push_source, source_of};
 use m68020_asm::Item;
 use m68020_code::{Ea, Instr};
 use t_base::Memory;

@@ -8,7 +8,8 @@ ghost use Rattle.lap_items.specs.Storage.{is_near, far_items, from_register, bas
 
 use crate::homes::{TOP, at_home, home_of, put_into, static_address};
 use crate::operands::{
-    FIRST_WORK, SECOND_WORK, WORK_ADDRESS, index_d, push_item, push_load, push_plain, push_source, source_of,
+    FIRST_WORK, SECOND_WORK, WORK_ADDRESS, index_d, push_item, push_load, push_plain, push_source,
+    source_of,
 };
 use m68020_asm::Item;
 use m68020_code::{Ea, Instr};
@@ -104,12 +105,7 @@ fn base_of(home: Home) -> u8
 }
 
 #[tactic(auto, unfolding(lap_items::specs::Storage::access_items))]
-fn push_access(
-    items: &mut Vec<Item>,
-    homes: &[Home],
-    x: Operand,
-    offset: i32,
-) -> Result<(), Memory>
+fn push_access(items: &mut Vec<Item>, homes: &[Home], x: Operand, offset: i32) -> Result<(), Memory>
     ensures { OnOk result (items.new.items ≡ items.old.items ++ access_items homes.now x offset) }
 {
     match x {

@@ -1,5 +1,5 @@
 -- What a whole program does at once can be done at once.
-use Rattle.std.proofs.Common.{◌≡◌, ◌≢◌, ℕ, zero, suc, ◌+◌, ◌<◌, ◌≤◌, ◌&&◌, nat_le, Bool, true, false, List, [], ◌∷◌, ◌++◌, length, get_or, map, Option, Some, None, slice_get, refl, sym, ap, subst, ◌∙◌, arith, length-append}
+use Rattle.std.proofs.Common.{◌≡◌, ◌≢◌, ℕ, zero, suc, ◌+◌, ◌<◌, ◌≤◌, ◌&&◌, nat_le, Bool, true, false, List, [], ◌∷◌, ◌++◌, length, get_or, Option, Some, None, slice_get, refl, sym, ap, subst, ◌∙◌, arith, length-append}
 use Rattle.std.specs.Prelude.{All, AllPairs, Contains, nat_lt, if◌then◌else◌}
 use Rattle.std.specs.List.{flat_map}
 use Rattle.std.specs.Option.{option_map_or}
@@ -16,11 +16,10 @@ use Rattle.word_ir.specs.declared.words.WordEnd.{WordEnd}
 use Rattle.word_ir.specs.declared.words.WordEnd.TheVariants as last
 use Rattle.word_ir.specs.declared.words.Words.{Words}
 use Rattle.word_ir.specs.State.{keeper_of, Own, At}
-use Rattle.word_ir.specs.Whole.{IsWhole, HasScopes, HasPlaces, binders, binders_in}
-use Rattle.word_ir.specs.WholePlaced.{IsHome, IsWholePlaced, HasLodgings, AreLodged}
+use Rattle.word_ir.specs.Whole.{binders_in}
+use Rattle.word_ir.specs.WholePlaced.{IsHome, IsWholePlaced, AreLodged}
 use Rattle.parallel_moves.specs.Moves.{scratch, AreParallel}
 use Rattle.lap_items.specs.Homes.{home_of, number_of_home, convention}
-use Rattle.lap_items.specs.Moves.{moves_to}
 use Rattle.lap_items.specs.Ends.{is_taken, homes_of_params, homes_of_block, places_of, end_moves}
 use Rattle.lap_items.specs.Program.{first_moves, moves_between, CanMove}
 use Rattle.lap_items.proofs.Numbers.{IsNear, number_small, same_number}
@@ -101,8 +100,8 @@ two_apart placed whole b block at v w has_v has_w in_v in_w other same =
     let homes : List Home = placed.at.items in
     let starts : AreLodged _ homes (block.params ++ _) = whole.lodgings.starts b block at in
     let is : home_of homes v ≡ home_of homes w =
-        same_number (length placed.words.statics.items) (home_of homes v) (home_of homes w) whole.words.places.few
-        (near_home placed.words (home_of homes v) (whole.homes v.0 (home.D 0) in_v)) (near_home placed.words (home_of homes w) (whole.homes w.0 (home.D 0) in_w)) same in
+    same_number (length placed.words.statics.items) (home_of homes v) (home_of homes w) whole.words.places.few
+    (near_home placed.words (home_of homes v) (whole.homes v.0 (home.D 0) in_v)) (near_home placed.words (home_of homes w) (whole.homes w.0 (home.D 0) in_w)) same in
     starts.0 v w (Contains-append_left block.params _ v has_v) (Contains-append_left block.params _ w has_w) other (kept_at_home homes v in_v ∙ ap At is ∙ sym (kept_at_home homes w in_w))
 
 pub params_apart : (placed : Placed) → IsWholePlaced placed → (b : ℕ) (block : WordBlock) → slice_get placed.words.blocks.items b ≡ Some block → AreApart (homes_of_params placed.at.items block)
@@ -119,7 +118,7 @@ params_apart placed whole b block at =
           subst (λ x. number_of_home x ≢ number_of_home (get_or homes j d)) (sym (get_or-map (home_of placed.at.items) block.params i none d in_i))
           (subst (λ y. number_of_home (home_of placed.at.items (get_or block.params i none)) ≢ number_of_home y) (sym (get_or-map (home_of placed.at.items) block.params j none d in_j))
           (two_apart placed whole b block at (get_or block.params i none) (get_or block.params j none) (Contains-get_or block.params i none in_i) (Contains-get_or block.params j none in_j)
-            (each i none in_i) (each j none in_j) (distinct i j none lt in_j)));
+          (each i none in_i) (each j none in_j) (distinct i j none lt in_j)));
       small = λ k d lt.
           let in_k : k < length block.params = omega (arith, long) in
           subst (λ x. number_of_home x < scratch) (sym (get_or-map (home_of placed.at.items) block.params k none d in_k)) (home_small placed whole (get_or block.params k none));
@@ -133,10 +132,10 @@ rises n (h ∷ places) = nat_le n (number_of_home h) && rises (number_of_home h 
 least : (n : ℕ) (places : List Home) → rises n places ≡ true → (k : ℕ) (d : Home) → k < length places → n ≤ number_of_home (get_or places k d)
 unfolding rises
 least n [] e k d lt = absurd (omega arith)
-least n (h ∷ places) e zero d lt = leb-true n (number_of_home h) (and_parts _ _ e).0
+least n (h ∷ places) e zero d lt = leb-true n (number_of_home h) (and_parts (nat_le n (number_of_home h)) (rises (number_of_home h + 1) places) e).0
 least n (h ∷ places) e (suc k) d lt =
-    let first : n ≤ number_of_home h = leb-true n (number_of_home h) (and_parts _ _ e).0 in
-    let later : number_of_home h + 1 ≤ number_of_home (get_or places k d) = least (number_of_home h + 1) places (and_parts _ _ e).1 k d (omega arith) in
+    let first : n ≤ number_of_home h = leb-true n (number_of_home h) (and_parts (nat_le n (number_of_home h)) (rises (number_of_home h + 1) places) e).0 in
+    let later : number_of_home h + 1 ≤ number_of_home (get_or places k d) = least (number_of_home h + 1) places (and_parts (nat_le n (number_of_home h)) (rises (number_of_home h + 1) places) e).1 k d (omega arith) in
     omega (arith, first, later)
 
 rising_apart : (n : ℕ) (places : List Home) → rises n places ≡ true → AllPairs (λ a b. number_of_home a ≢ number_of_home b) places
@@ -144,9 +143,9 @@ unfolding rises
 rising_apart n [] e i j d lt within = absurd (omega arith)
 rising_apart n (h ∷ places) e i zero d lt within = absurd (omega arith)
 rising_apart n (h ∷ places) e zero (suc j) d lt within =
-    let later : number_of_home h + 1 ≤ number_of_home (get_or places j d) = least (number_of_home h + 1) places (and_parts _ _ e).1 j d (omega arith) in
+    let later : number_of_home h + 1 ≤ number_of_home (get_or places j d) = least (number_of_home h + 1) places (and_parts (nat_le n (number_of_home h)) (rises (number_of_home h + 1) places) e).1 j d (omega arith) in
     λ same. absurd (omega (arith, later, same))
-rising_apart n (h ∷ places) e (suc i) (suc j) d lt within = rising_apart (number_of_home h + 1) places (and_parts _ _ e).1 i j d (omega arith) (omega arith)
+rising_apart n (h ∷ places) e (suc i) (suc j) d lt within = rising_apart (number_of_home h + 1) places (and_parts (nat_le n (number_of_home h)) (rises (number_of_home h + 1) places) e).1 i j d (omega arith) (omega arith)
 
 pub convention_apart : AreApart convention
 unfolding rises

@@ -1,8 +1,7 @@
 -- Homes by number.
-use Rattle.std.proofs.Common.{◌≡◌, ◌≢◌, ℕ, ◌+◌, ◌*◌, ◌<◌, ◌≤◌, ◌%◌, ◌^◌, List, length, arith, ap}
+use Rattle.std.proofs.Common.{◌≡◌, ℕ, ◌<◌, ◌≤◌, arith, ap}
 use Rattle.word_ir.specs.declared.placed.Home.{Home}
 use Rattle.word_ir.specs.declared.placed.Home.TheVariants as home
-use Rattle.word_ir.specs.WholePlaced.{farthest}
 use Rattle.parallel_moves.specs.Moves.{scratch}
 use Rattle.lap_items.specs.Homes.{number_of_home}
 

@@ -1,16 +1,15 @@
 -- Moves to places that are apart can be done at once.
-use Rattle.std.proofs.Common.{◌≡◌, ◌≢◌, ℕ, zero, suc, ◌+◌, ◌<◌, ◌≤◌, ◌==◌, Bool, true, false, List, [], ◌∷◌, length, get_or, refl, sym, ap, ◌∙◌, arith}
+use Rattle.std.proofs.Common.{◌≡◌, ◌≢◌, ℕ, suc, ◌+◌, ◌<◌, ◌≤◌, ◌==◌, Bool, true, false, List, [], ◌∷◌, length, get_or, refl, sym, ap, ◌∙◌, arith}
 use Rattle.std.specs.Prelude.{All, AllPairs, if◌then◌else◌}
 use Rattle.std.proofs.lemmas.Bool.{eqb-true, ne_eqb}
 use Rattle.word_ir.specs.declared.operands.Operand.{Operand}
 use Rattle.word_ir.specs.declared.operands.Operand.TheVariants as operand
 use Rattle.word_ir.specs.declared.placed.Home.{Home}
 use Rattle.word_ir.specs.declared.placed.Home.TheVariants as home
-use Rattle.parallel_moves.specs.declared.Move.{Move}
 use Rattle.parallel_moves.specs.Moves.{scratch, targets_at, sources_at, AreParallel}
 use Rattle.lap_items.specs.Homes.{home_of, number_of_home}
-use Rattle.lap_items.specs.Moves.{each_pair, moving, moves_to}
-use Rattle.lap_items.specs.Program.{single_move, moves_between}
+use Rattle.lap_items.specs.Moves.{moving, moves_to}
+use Rattle.lap_items.specs.Program.{moves_between}
 
 -- one where a number is this one
 one_at : ℕ → ℕ → ℕ

@@ -1,6 +1,5 @@
 -- Operands: where their words are for an instruction, and the items that have to run before. These change A3 alone.
 use Rattle.std.specs.Prelude.{ℕ, nat_lt, true, false, if◌then◌else◌, pos, List, [], ◌∷◌, ◌++◌}
-use Rattle.t_base.specs.declared.basics.Var.{Var}
 use Rattle.word_ir.specs.declared.operands.Operand.{Operand}
 use Rattle.word_ir.specs.declared.operands.Operand.TheVariants as operand
 use Rattle.word_ir.specs.declared.placed.Home.{Home}

@@ -1,6 +1,5 @@
 -- The items of an operation: a table by its kind.
 use Rattle.std.specs.Prelude.{ℕ, ◌*◌, ◌-◌, ◌^◌, min, List, [], ◌∷◌, ◌++◌}
-use Rattle.t_base.specs.declared.basics.Var.{Var}
 use Rattle.word_ir.specs.declared.operands.Operand.{Operand}
 use Rattle.word_ir.specs.declared.placed.Home.{Home}
 use Rattle.word_ir.specs.declared.words.WordOp.{WordOp}

@@ -15,7 +15,7 @@ use Rattle.m68020_step.specs.Word.{sum_of, unsigned}
 use Rattle.m68020_asm.specs.declared.item.Item.{Item}
 use Rattle.m68020_asm.specs.declared.item.Item.TheVariants.{Plain, CodeAddr}
 use Rattle.lap_items.specs.Homes.{home_of, at_home, put_into}
-use Rattle.lap_items.specs.Operands.{index_d, source_items, source_of, load_items}
+use Rattle.lap_items.specs.Operands.{index_d, source_of, load_items}
 
 -- a displacement is near where 16 bits with a sign hold it
 abbrev pub is_near : ℤ → Bool

@@ -1,7 +1,5 @@
-use Rattle.std.proofs.Common.{◌≡◌, ◌++◌, [], get_or, arith}
-use Rattle.word_ir.specs.declared.operands.Operand.TheVariants as operand
+use Rattle.std.proofs.Common.{[], arith}
 use Rattle.word_ir.specs.declared.placed.Home.TheVariants as home
-use Rattle.lap_items.specs.Moves.{moving, filling}
 use Rattle.lap_items.specs.Program.{single_move}
 use Rattle.lap_emit.proofs.Pairs.{pairs_step, pairs_end}
 use Rattle.lap_emit.proofs.moves.moves_between.Goals as goal

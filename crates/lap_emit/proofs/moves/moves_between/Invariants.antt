@@ -1,4 +1,4 @@
-use Rattle.std.proofs.Common.{◌≡◌, ◌++◌, take}
+use Rattle.std.proofs.Common.{◌≡◌, take}
 use Rattle.lap_items.specs.Moves.{each_pair}
 use Rattle.lap_items.specs.Program.{single_move}
 use Rattle.lap_emit.proofs.moves.moves_between.Given as goal

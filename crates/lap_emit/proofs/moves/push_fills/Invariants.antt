@@ -1,6 +1,5 @@
 use Rattle.std.proofs.Common.{◌≡◌, ◌++◌, take}
 use Rattle.lap_items.specs.Moves.{each_pair, filling}
-use Rattle.lap_items.specs.Program.{single_move}
 use Rattle.lap_emit.proofs.moves.push_fills.Given as goal
 
 abbrev pub invariant-pairs : goal.invariant-pairs

@@ -1,4 +1,4 @@
-use Rattle.std.proofs.Common.{◌≡◌, ◌<◌, length, subst, sym, take, arith}
+use Rattle.std.proofs.Common.{◌≡◌, ◌<◌, length, subst, take, arith}
 use Rattle.std.proofs.Math.Seq.{take-length}
 use Rattle.lap_emit.specs.Written.{AddsBlock, AddsBlocks}
 use Rattle.lap_emit.proofs.MarkLemmas.{got}

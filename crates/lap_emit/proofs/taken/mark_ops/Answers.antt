@@ -1,10 +1,7 @@
-use Rattle.std.proofs.Common.{◌<◌, length, get_or, arith}
+use Rattle.std.proofs.Common.{◌<◌, length, arith}
 use Rattle.std.specs.List.{flat_map}
-use Rattle.word_ir.specs.declared.operands.Operand.TheVariants as operand
-use Rattle.word_ir.specs.declared.words.StaticWord.TheVariants as first
-use Rattle.word_ir.specs.Lines.{operand_code, op_operands, codes_of, lines_of}
-use Rattle.word_ir.specs.Whole.{static_code}
-use Rattle.lap_emit.proofs.MarkLemmas.{marked_step, read_same}
+use Rattle.word_ir.specs.Lines.{operand_code, op_operands}
+use Rattle.lap_emit.proofs.MarkLemmas.{marked_step}
 use Rattle.lap_emit.proofs.taken.mark_ops.Goals as goal
 
 pub loop-op-preserved : goal.loop-op-preserved
