@@ -1,0 +1,5 @@
+pub mod Rows
+pub mod OpRows
+pub mod EndRows
+pub mod Chunks
+pub mod Assembled
