@@ -3,3 +3,5 @@ pub mod OpRows
 pub mod EndRows
 pub mod Chunks
 pub mod Assembled
+pub mod Sizes
+pub mod Bytes
