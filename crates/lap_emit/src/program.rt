@@ -1,12 +1,15 @@
 //! Whole programs.
 
-ghost use Rattle.std.specs.Prelude.{◌≡◌, ◌∷◌, [], ◌++◌, slice_get, Some, IfOk, OnOk};
+ghost use Rattle.std.specs.Prelude.{◌≡◌, ◌+◌, ◌≤◌, ◌^◌, length, ◌∷◌, [], ◌++◌, slice_get, Some, IfOk, OnOk};
 ghost use Rattle.word_ir.specs.WholePlaced.{IsWholePlaced};
 ghost use Rattle.parallel_moves.specs.Moves.{AreParallel};
 ghost use Rattle.std.specs.List.{flat_map};
 ghost use Rattle.lap_items.specs.Operations.{op_items};
 ghost use Rattle.lap_items.specs.Ends.{end_moves};
 ghost use Rattle.lap_items.specs.Program.{first_moves, ops_items, CanMove, IsEmitted};
+ghost use Rattle.m68020_code.specs.declared.instr.Width.TheVariants.{Long};
+ghost use Rattle.m68020_asm.specs.Items.{address, code_start, CanAssemble};
+ghost use Rattle.lap_shapes.specs.Sizes.{most_bytes};
 ghost use Rattle.lap_emit.specs.Marks.{AreMarks};
 ghost use Rattle.lap_emit.specs.Written.{AddsBlock, AddsBlocks};
 
@@ -97,12 +100,8 @@ fn push_blocks(
     Ok(())
 }
 
-/// The items of a program, which are a list by its blocks: each with its number as its label, the moves of its parameters where its code
-/// is taken, its operations, and its end.
-///
-/// It takes time linear in the program. An error means that memory ran out, or numbers of labels did.
 #[tactic(auto, using(lap_items::proofs::Distinct::whole_can_move))]
-pub fn emit(alloc: Global, placed: &Placed) -> Result<Vec<Item>, Memory>
+fn emit_items(alloc: Global, placed: &Placed) -> Result<Vec<Item>, Memory>
     requires { IsWholePlaced placed.now }
     ensures { IfOk result (λ items. IsEmitted placed.now items.items) }
 {
@@ -110,4 +109,18 @@ pub fn emit(alloc: Global, placed: &Placed) -> Result<Vec<Item>, Memory>
     let mut items = Vec::new(alloc);
     push_blocks(alloc, &mut items, marks.as_slice(), placed)?;
     Ok(items)
+}
+
+/// The items of a program, which are a list by its blocks: each with its number as its label, the moves of its parameters where its code
+/// is taken, its operations, and its end. `assemble` takes them where they are short enough, as they are when the table of `lap_shapes`
+/// gives no more than 2^28 bytes.
+///
+/// It takes time linear in the program. An error means that memory ran out, or that there are more blocks than numbers of labels.
+pub fn emit(alloc: Global, placed: &Placed) -> Result<Vec<Item>, Memory>
+    requires { IsWholePlaced placed.now }
+    ensures items { IfOk result (λ items. IsEmitted placed.now items.items) }
+    ensures assembles { IfOk result (λ items. address items.items (λ _. Long) (length items.items) ≤ code_start + 2 ^ 28 → CanAssemble items.items) }
+    ensures bytes { IfOk result (λ items. address items.items (λ _. Long) (length items.items) ≤ code_start + most_bytes placed.now.words) }
+{
+    emit_items(alloc, placed)
 }
