@@ -1,6 +1,6 @@
 -- What is emitted can be assembled, and how long it is.
-use Rattle.std.specs.Prelude.{ℕ, ◌+◌, ◌≤◌, ◌^◌, length, Result, Ok, Err, IfOk}
-use Rattle.std.specs.Global.{Vec, Global}
+use Rattle.std.specs.Prelude.{◌+◌, ◌≤◌, ◌^◌, length, Result, Ok, Err, IfOk}
+use Rattle.std.specs.Global.{Vec}
 use Rattle.t_base.specs.declared.basics.Memory.{Memory}
 use Rattle.word_ir.specs.declared.placed.Placed.{Placed}
 use Rattle.word_ir.specs.WholePlaced.{IsWholePlaced}

@@ -1,9 +1,8 @@
 -- The items of a whole program can be assembled.
-use Rattle.std.proofs.Common.{◌≡◌, ℕ, zero, suc, ◌+◌, ◌<◌, ◌≤◌, ◌^◌, nat_lt, Bool, true, false, List, [], ◌∷◌, ◌++◌, length, get_or, slice_get, Option, Some, None, refl, ap, sym, subst, ◌∙◌, arith}
-use Rattle.std.specs.Prelude.{All, IsSomeAnd}
+use Rattle.std.proofs.Common.{◌≡◌, ℕ, zero, suc, ◌+◌, ◌<◌, ◌≤◌, ◌^◌, nat_lt, Bool, true, false, List, [], ◌∷◌, ◌++◌, length, get_or, slice_get, Some, refl, ap, sym, subst, ◌∙◌, arith}
+use Rattle.std.specs.Prelude.{All}
 use Rattle.std.specs.List.{AllByRecursion, flat_map}
 use Rattle.std.proofs.lemmas.Bool.{ltb-true, ltb-false}
-use Rattle.t_base.specs.declared.basics.Var.{Var}
 use Rattle.word_ir.specs.declared.placed.Home.{Home}
 use Rattle.word_ir.specs.declared.placed.Home.TheVariants as home
 use Rattle.word_ir.specs.declared.placed.Placed.{Placed}
@@ -14,8 +13,6 @@ use Rattle.word_ir.specs.declared.words.Words.{Words}
 use Rattle.word_ir.specs.Lines.{Line, Op, Last, lines_from, lines_of, operands_of, exits_of}
 use Rattle.word_ir.specs.Whole.{IsWhole, IsOperand, IsLineThere, IsShaped, is_sized, is_op_shaped, jumps_of, open_blocks, jumped_blocks}
 use Rattle.word_ir.specs.WholePlaced.{IsHome, IsWholePlaced}
-use Rattle.parallel_moves.specs.declared.OneMove.{OneMove}
-use Rattle.m68020_code.specs.declared.instr.Cond.{Cond}
 use Rattle.m68020_code.specs.declared.instr.Width.TheVariants.{Long}
 use Rattle.m68020_asm.specs.declared.item.Item.{Item}
 use Rattle.m68020_asm.specs.declared.item.Item.TheVariants.{Plain, Label, Branch, CodeAddr}
@@ -142,8 +139,8 @@ has_parts placed b (block ∷ blocks) items have fit (front, rest, same, is, oth
     let end : List Item = end_items placed block.last is.last in
     let last : IsFit placed.words (Last block.last) = last_fit placed.words block.ops.items block.last fit.0 in
     let code : AreCode n (first ++ ops ++ end) =
-        code_append n (first ++ ops) end (code_append n first ops (moved_code n is.first) (ops_code placed.words placed.at.items block.ops.items block.last have fit.0))
-        (end_code placed block.last is.last have last.operands last.sized last.exits last.jumps) in
+    code_append n (first ++ ops) end (code_append n first ops (moved_code n is.first) (ops_code placed.words placed.at.items block.ops.items block.last have fit.0))
+    (end_code placed block.last is.last have last.operands last.sized last.exits last.jumps) in
     record {
       parts = (first ++ ops ++ end) ∷ later.parts;
       same = same ∙ ap (λ t. t ++ rest) is.same ∙ ap (λ t. Label b ∷ (first ++ ops ++ end) ++ t) later.same;

@@ -1,5 +1,5 @@
 -- How many bytes ends, blocks and the whole take at most.
-use Rattle.std.proofs.Common.{◌≡◌, ℕ, zero, suc, ◌+◌, ◌*◌, ◌<◌, ◌≤◌, Bool, true, false, List, [], ◌∷◌, ◌++◌, length, map, slice_get, take, Option, Some, None, refl, ap, sym, ◌∙◌, arith, length-append}
+use Rattle.std.proofs.Common.{◌≡◌, ℕ, zero, suc, ◌+◌, ◌*◌, ◌≤◌, Bool, true, false, List, [], ◌∷◌, ◌++◌, length, slice_get, take, ap, arith, length-append}
 use Rattle.std.specs.Prelude.{if◌then◌else◌, sum_by}
 use Rattle.std.specs.List.{flat_map}
 use Rattle.std.proofs.Math.Seq.{take-length}
@@ -15,19 +15,18 @@ use Rattle.word_ir.specs.declared.words.WordBlock.{WordBlock}
 use Rattle.word_ir.specs.declared.words.WordEnd.{WordEnd}
 use Rattle.word_ir.specs.declared.words.WordEnd.TheVariants as last
 use Rattle.word_ir.specs.declared.words.WordOp.{WordOp}
-use Rattle.parallel_moves.specs.declared.Move.{Move}
 use Rattle.parallel_moves.specs.declared.OneMove.{OneMove}
 use Rattle.m68020_code.specs.declared.instr.Cond.TheVariants.{Bra}
 use Rattle.m68020_code.specs.declared.instr.Ea.TheVariants.{Ind}
 use Rattle.m68020_code.specs.declared.instr.Instr.TheVariants.{CmpL, Jmp}
 use Rattle.m68020_code.specs.declared.instr.Width.TheVariants.{Long}
 use Rattle.m68020_asm.specs.declared.item.Item.{Item}
-use Rattle.m68020_asm.specs.declared.item.Item.TheVariants.{Plain, Label, Branch}
+use Rattle.m68020_asm.specs.declared.item.Item.TheVariants.{Plain, Branch}
 use Rattle.m68020_asm.specs.Items.{size_of, size_of_any, address, code_start}
 use Rattle.lap_items.specs.Homes.{home_of, at_home, home_at, put_into, convention}
 use Rattle.lap_items.specs.Operands.{source_items, source_of, load_items}
 use Rattle.lap_items.specs.Operations.{op_items}
-use Rattle.lap_items.specs.Moves.{each_pair, moving, moves_to, filling, fill_items, moved_items, DoesAtOnce}
+use Rattle.lap_items.specs.Moves.{moving, moves_to, filling, fill_items, moved_items}
 use Rattle.lap_items.specs.Ends.{is_taken, homes_of_params, places_of, condition_of, comparing_items, test_items, code_items, into_a3, end_moves, end_items}
 use Rattle.lap_items.specs.Program.{moves_between, first_moves, ops_items, IsBlock, AreBlocks, IsEmitted}
 use Rattle.lap_shapes.specs.Sizes.{op_bytes, end_bytes, block_bytes, most_bytes}
@@ -85,15 +84,31 @@ end_within : (placed : Placed) (end : WordEnd) (done : List OneMove) → length 
 unfolding end_moves end_items test_items
 end_within placed (last.Jump block args) done few =
     let places : List Home = places_of placed block in
-    omega (arith, bytes_append (moved_items done ++ fill_items placed.at.items args places) (Branch Bra block ∷ []), bytes_append (moved_items done) (fill_items placed.at.items args places),
-      moved_bytes done, arguments_bytes placed.at.items args places)
+    omega (
+      arith,
+      bytes_append (moved_items done ++ fill_items placed.at.items args places) (Branch Bra block ∷ []),
+      bytes_append (moved_items done) (fill_items placed.at.items args places),
+      moved_bytes done,
+      arguments_bytes placed.at.items args places,
+    )
 end_within placed (last.Enter code args) done few =
-    omega (arith, bytes_append ((code_items placed.at.items code ++ moved_items done) ++ fill_items placed.at.items args convention) (into_a3 code ∷ Plain (Jmp (Ind 3)) ∷ []),
-      bytes_append (code_items placed.at.items code ++ moved_items done) (fill_items placed.at.items args convention), bytes_append (code_items placed.at.items code) (moved_items done),
-      moved_bytes done, arguments_bytes placed.at.items args convention, entering_bytes placed.at.items code)
+    omega (
+      arith,
+      bytes_append ((code_items placed.at.items code ++ moved_items done) ++ fill_items placed.at.items args convention) (into_a3 code ∷ Plain (Jmp (Ind 3)) ∷ []),
+      bytes_append (code_items placed.at.items code ++ moved_items done) (fill_items placed.at.items args convention),
+      bytes_append (code_items placed.at.items code) (moved_items done),
+      moved_bytes done,
+      arguments_bytes placed.at.items args convention,
+      entering_bytes placed.at.items code,
+    )
 end_within placed (last.Test kind a x at_true at_false) done few =
-    omega (arith, bytes_append (load_items placed.at.items a 7 ++ comparing_items placed.at.items kind x) (Branch (condition_of kind) at_true ∷ Branch Bra at_false ∷ []),
-      bytes_append (load_items placed.at.items a 7) (comparing_items placed.at.items kind x), load_bytes placed.at.items a 7, comparing_bytes placed.at.items kind x)
+    omega (
+      arith,
+      bytes_append (load_items placed.at.items a 7 ++ comparing_items placed.at.items kind x) (Branch (condition_of kind) at_true ∷ Branch Bra at_false ∷ []),
+      bytes_append (load_items placed.at.items a 7) (comparing_items placed.at.items kind x),
+      load_bytes placed.at.items a 7,
+      comparing_bytes placed.at.items kind x,
+    )
 end_within placed last.Stop done few = omega arith
 
 -- ---- blocks
@@ -114,8 +129,17 @@ block_within placed b block items is =
     let first : List Item = moved_items is.first in
     let ops : List Item = ops_items placed block in
     let end : List Item = end_items placed block.last is.last in
-    omega (arith, ap bytes_in is.same, bytes_append (first ++ ops) end, bytes_append first ops, moved_bytes is.first, is.enters.few, first_few placed b block, ops_bytes placed.at.items block.ops.items,
-      end_within placed block.last is.last is.leaves.few)
+    omega (
+      arith,
+      ap bytes_in is.same,
+      bytes_append (first ++ ops) end,
+      bytes_append first ops,
+      moved_bytes is.first,
+      is.enters.few,
+      first_few placed b block,
+      ops_bytes placed.at.items block.ops.items,
+      end_within placed block.last is.last is.leaves.few,
+    )
 
 blocks_within : (placed : Placed) (b : ℕ) (blocks : List WordBlock) (items : List Item) → AreBlocks placed b blocks items → bytes_in items ≤ sum_by block_bytes blocks
 blocks_within placed b [] items none = omega (arith, ap bytes_in none)

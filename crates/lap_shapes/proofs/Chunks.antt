@@ -1,13 +1,11 @@
 -- Items with a label in front of each of several parts, in which no label stands.
-use Rattle.std.proofs.Common.{◌≡◌, ℕ, zero, suc, ◌+◌, ◌-◌, ◌<◌, ◌≤◌, List, [], ◌∷◌, ◌++◌, length, slice_get, Option, Some, None, refl, ap, sym, subst, ◌∙◌, arith, inl, inr}
+use Rattle.std.proofs.Common.{◌≡◌, ℕ, zero, suc, ◌+◌, ◌<◌, ◌≤◌, List, [], ◌∷◌, ◌++◌, length, Some, refl, ap, subst, arith, inl, inr}
 use Rattle.std.proofs.lemmas.Bool.{cases_lt}
-use Rattle.std.specs.Prelude.{max}
 use Rattle.std.specs.List.{AllByRecursion}
-use Rattle.m68020_code.specs.declared.instr.Cond.{Cond}
 use Rattle.m68020_asm.specs.declared.item.Item.{Item}
 use Rattle.m68020_asm.specs.declared.item.Item.TheVariants.{Plain, Label, Branch, CodeAddr}
-use Rattle.m68020_asm.specs.Items.{IsItem, IsLabelAt, label_count}
-use Rattle.lap_shapes.proofs.Rows.{IsCode, AreCode}
+use Rattle.m68020_asm.specs.Items.{IsLabelAt, label_count}
+use Rattle.lap_shapes.proofs.Rows.{AreCode}
 
 abbrev pub chunks : ℕ → List (List Item) → List Item
 chunks b [] = []
@@ -71,8 +69,10 @@ pub counted : (blocks b : ℕ) (parts : List (List Item)) → AllByRecursion (Ar
 counted blocks b [] are = (λ none. refl, λ some. absurd (omega arith))
 counted blocks b (c ∷ parts) are =
     let rest = counted blocks (b + 1) parts are.1 in
-    let same : label_count (c ++ chunks (b + 1) parts) ≡ label_count (chunks (b + 1) parts) = count_behind blocks c (chunks (b + 1) parts) are.0 in
-    (λ none. absurd (omega arith), λ some. elim (cases_lt 0 (length parts)) [
-      | inr small ↦ omega (arith, same, rest.0 (omega (arith, small)))
-      | inl large ↦ omega (arith, same, rest.1 (omega (arith, large)))
-    ])
+    let same : label_count (c ++ chunks (b + 1) parts) ≡ label_count (chunks (b + 1) parts) = count_behind blocks c (chunks (b + 1) parts) are.0 in (
+      λ none. absurd (omega arith),
+      λ some. elim (cases_lt 0 (length parts)) [
+        | inr small ↦ omega (arith, same, rest.0 (omega (arith, small)))
+        | inl large ↦ omega (arith, same, rest.1 (omega (arith, large)))
+      ],
+    )

@@ -1,5 +1,5 @@
 -- The items of ends and of moves are instructions of the table, and branches to blocks that are there.
-use Rattle.std.proofs.Common.{◌≡◌, ℕ, ◌+◌, ◌/◌, ◌<◌, ◌≤◌, ◌%◌, ◌^◌, ◌==◌, ◌&&◌, nat_lt, Bool, true, false, List, [], ◌∷◌, ◌++◌, length, map, Option, Some, None, slice_get, refl, ap, sym, arith}
+use Rattle.std.proofs.Common.{◌≡◌, ℕ, ◌/◌, ◌<◌, ◌%◌, ◌^◌, ◌==◌, Bool, true, false, List, [], ◌∷◌, ◌++◌, length, map, Option, Some, None, slice_get, refl, arith}
 use Rattle.std.specs.Prelude.{if◌then◌else◌, min}
 use Rattle.std.specs.List.{AllByRecursion}
 use Rattle.std.specs.Option.{option_map_or}
@@ -20,15 +20,12 @@ use Rattle.word_ir.specs.Lines.{end_operands, end_exits}
 use Rattle.word_ir.specs.Whole.{IsOperand, is_test_sized, is_end_sized, end_jumps}
 use Rattle.parallel_moves.specs.declared.OneMove.{OneMove}
 use Rattle.parallel_moves.specs.Moves.{scratch}
-use Rattle.m68020_code.specs.declared.instr.Cond.TheVariants.{Bra}
-use Rattle.m68020_code.specs.declared.instr.Ea.TheVariants.{D, Ind}
-use Rattle.m68020_code.specs.declared.instr.Instr.TheVariants.{MoveaL, AndiL, CmpL, CmpiL, Jmp, Illegal}
-use Rattle.m68020_asm.specs.declared.item.Item.{Item}
-use Rattle.m68020_asm.specs.declared.item.Item.TheVariants.{Plain, Branch, CodeAddr}
+use Rattle.m68020_code.specs.declared.instr.Instr.TheVariants.{CmpL}
+use Rattle.m68020_asm.specs.declared.item.Item.TheVariants.{Plain}
 use Rattle.lap_items.specs.Homes.{home_of, at_home, put_into, home_at, convention}
 use Rattle.lap_items.specs.Operands.{source_items, source_of, load_items}
-use Rattle.lap_items.specs.Moves.{each_pair, filling, fill_items, one_item, moved_items}
-use Rattle.lap_items.specs.Ends.{is_taken, homes_of_params, homes_of_block, places_of, condition_of, comparing_items, test_items, code_items, into_a3, end_items}
+use Rattle.lap_items.specs.Moves.{filling, fill_items, moved_items}
+use Rattle.lap_items.specs.Ends.{is_taken, homes_of_params, homes_of_block, places_of, comparing_items, test_items, code_items, into_a3, end_items}
 use Rattle.lap_shapes.proofs.Rows.{IsCode, AreCode, code_append, both, HasRegister, HaveRegisters, all_at_home, put_code, source_code, source_all, load_code}
 
 -- ---- moves
@@ -121,17 +118,17 @@ unfolding end_items test_items
 end_code placed (last.Jump block args) done have are sized exits jumps =
     code_append (length placed.words.blocks.items) (moved_items done ++ fill_items placed.at.items args (places_of placed block)) _
     (code_append (length placed.words.blocks.items) (moved_items done) (fill_items placed.at.items args (places_of placed block)) (moved_code (length placed.words.blocks.items) done)
-      (fills_code placed.words placed.at.items args (places_of placed block) have are (places_have placed block have)))
+    (fills_code placed.words placed.at.items args (places_of placed block) have are (places_have placed block have)))
     (jumps.0, tt)
 end_code placed (last.Enter code args) done have are sized exits jumps =
     code_append (length placed.words.blocks.items) ((code_items placed.at.items code ++ moved_items done) ++ fill_items placed.at.items args convention) _
     (code_append (length placed.words.blocks.items) (code_items placed.at.items code ++ moved_items done) (fill_items placed.at.items args convention)
-      (code_append (length placed.words.blocks.items) (code_items placed.at.items code) (moved_items done) (coded_code placed.words placed.at.items code have are.0) (moved_code (length placed.words.blocks.items) done))
-      (fills_code placed.words placed.at.items args convention have are.1 convention_has))
+    (code_append (length placed.words.blocks.items) (code_items placed.at.items code) (moved_items done) (coded_code placed.words placed.at.items code have are.0) (moved_code (length placed.words.blocks.items) done))
+    (fills_code placed.words placed.at.items args convention have are.1 convention_has))
     (into_code placed.words code are.0, ((refl, refl), tt))
 end_code placed (last.Test kind a x at_true at_false) done have are sized exits jumps =
     code_append (length placed.words.blocks.items) (load_items placed.at.items a 7 ++ comparing_items placed.at.items kind x) _
     (code_append (length placed.words.blocks.items) (load_items placed.at.items a 7) (comparing_items placed.at.items kind x) (load_code placed.words placed.at.items a 7 have are.0 (omega arith))
-      (comparing_code placed.words placed.at.items kind x have are.1.0 sized))
+    (comparing_code placed.words placed.at.items kind x have are.1.0 sized))
     (exits.0, (exits.1.0, tt))
 end_code placed last.Stop done have are sized exits jumps = ((refl, refl), tt)

@@ -1,6 +1,6 @@
 -- The items of operations are instructions of the table, and branches to blocks that are there.
-use Rattle.std.proofs.Common.{◌≡◌, ℕ, ◌+◌, ◌*◌, ◌-◌, ◌/◌, ◌<◌, ◌≤◌, ◌%◌, ◌^◌, ◌==◌, ◌&&◌, ◌||◌, nat_lt, Bool, true, false, ℤ, pos, negsuc, ◌+ℤ◌, List, [], ◌∷◌, ◌++◌, length, zero, suc, refl, ap, sym, subst, ◌∙◌, arith}
-use Rattle.std.specs.Prelude.{if◌then◌else◌, min, IsTrue, All}
+use Rattle.std.proofs.Common.{◌≡◌, ℕ, ◌+◌, ◌/◌, ◌<◌, ◌≤◌, ◌%◌, ◌^◌, ◌==◌, ◌&&◌, ◌||◌, nat_lt, Bool, true, false, ℤ, pos, negsuc, ◌+ℤ◌, List, [], ◌∷◌, ◌++◌, length, zero, suc, refl, arith}
+use Rattle.std.specs.Prelude.{if◌then◌else◌, min}
 use Rattle.std.specs.List.{AllByRecursion}
 use Rattle.std.proofs.lemmas.Bool.{lt-ltb, ltb-true, le-leb, eqb-true, eqb-false, and_parts}
 use Rattle.word_ir.specs.declared.operands.Operand.{Operand}
@@ -15,18 +15,16 @@ use Rattle.word_ir.specs.declared.words.Words.{Words}
 use Rattle.word_ir.specs.Lines.{op_operands, op_exits}
 use Rattle.word_ir.specs.Storage.{static_at}
 use Rattle.word_ir.specs.Whole.{IsOperand, is_signed, is_op_sized, is_op_shaped, is_service, is_bit}
-use Rattle.m68020_code.specs.declared.instr.Cond.TheVariants.{Vs, Cs}
-use Rattle.m68020_code.specs.declared.instr.Ea.{Ea}
 use Rattle.m68020_code.specs.declared.instr.Ea.TheVariants.{D, A, Abs, Imm}
 use Rattle.m68020_code.specs.declared.instr.Ea.TheVariants as ea
-use Rattle.m68020_code.specs.declared.instr.Instr.TheVariants.{MoveL, MoveB, MoveaL, Moveq, AddL, SubL, AndL, OrL, MulsL, AddiL, CmpiL, AddaL, SubaL, Trap, AslL, AsrL}
+use Rattle.m68020_code.specs.declared.instr.Instr.TheVariants.{MoveB, AddiL}
 use Rattle.m68020_code.specs.Table.{is_row, is_all, is_alter_mode, fits, counts}
 use Rattle.m68020_step.specs.Word.{sum_of, unsigned}
 use Rattle.m68020_asm.specs.declared.item.Item.{Item}
-use Rattle.m68020_asm.specs.declared.item.Item.TheVariants.{Plain, Branch}
-use Rattle.lap_items.specs.Homes.{home_of, at_home, put_into}
-use Rattle.lap_items.specs.Operands.{index_d, source_items, source_of, load_items, settled_items, settled}
-use Rattle.lap_items.specs.Storage.{is_near, far_items, from_register, base_items, base_of, access_items, access_of, read_items, kept_items, kept_of, write_items, index_items, short_of, byte_base_items, byte_of, read_byte_items}
+use Rattle.m68020_asm.specs.declared.item.Item.TheVariants.{Plain}
+use Rattle.lap_items.specs.Homes.{home_of}
+use Rattle.lap_items.specs.Operands.{index_d, source_items, source_of, load_items, settled_items}
+use Rattle.lap_items.specs.Storage.{far_items, base_items, base_of, access_items, access_of, read_items, kept_items, kept_of, write_items, index_items, short_of, byte_base_items, byte_of, read_byte_items}
 use Rattle.lap_items.specs.Arithmetic.{left_shift, right_shift, repeated, left_items, right_items, shift_items, computing_items, result_in, arith_items}
 use Rattle.lap_items.specs.Services.{no_service, with_one_items, fault_items, is_one, left_items as room_items, full_items, service_items}
 use Rattle.lap_items.specs.Operations.{move_items, take_items, bytes_of_words, push_items, op_items}
@@ -200,9 +198,11 @@ room_code b false = ((refl, refl), ((refl, refl), ((refl, refl), tt)))
 with_one_code : (words : Words) (homes : List Home) (number : ℕ) (args : List Operand) → HaveRegisters homes → AllByRecursion (IsOperand words) args → number < 16 → AreCode (length words.blocks.items) (with_one_items homes number args)
 unfolding with_one_items
 with_one_code words homes number [] have are lt = no_service_code (length words.blocks.items)
-with_one_code words homes number (a ∷ []) have are lt =
-    ((refl, refl), code_append (length words.blocks.items) (source_items a) _ (source_code words a are.0)
-      (move_code (length words.blocks.items) (source_of homes a) 0 (source_all words homes a have are.0) (omega arith), ((lt-ltb number 16 lt, refl), ((refl, refl), tt))))
+with_one_code words homes number (a ∷ []) have are lt = (
+  (refl, refl),
+  code_append (length words.blocks.items) (source_items a) _ (source_code words a are.0)
+      (move_code (length words.blocks.items) (source_of homes a) 0 (source_all words homes a have are.0) (omega arith), ((lt-ltb number 16 lt, refl), ((refl, refl), tt))),
+)
 with_one_code words homes number (a ∷ x ∷ rest) have are lt = no_service_code (length words.blocks.items)
 
 fault_code : (words : Words) (homes : List Home) (args : List Operand) → HaveRegisters homes → AllByRecursion (IsOperand words) args → AreCode (length words.blocks.items) (fault_items homes args)

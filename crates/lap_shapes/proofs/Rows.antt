@@ -1,5 +1,5 @@
 -- Each item but the labels is an instruction of the table, or names a block that is there.
-use Rattle.std.proofs.Common.{◌≡◌, ℕ, ◌+◌, ◌*◌, ◌<◌, ◌≤◌, ◌%◌, ◌^◌, ◌&&◌, nat_lt, Bool, true, false, ℤ, pos, ◌+ℤ◌, List, [], ◌∷◌, ◌++◌, length, refl, ap, sym, subst, ◌∙◌, arith}
+use Rattle.std.proofs.Common.{◌≡◌, ℕ, ◌*◌, ◌<◌, ◌^◌, ◌&&◌, nat_lt, Bool, true, false, ℤ, pos, List, [], ◌∷◌, ◌++◌, length, refl, ap, ◌∙◌, arith}
 use Rattle.std.specs.Prelude.{if◌then◌else◌, min}
 use Rattle.std.specs.List.{AllByRecursion}
 use Rattle.std.proofs.lemmas.Bool.{lt-ltb}
@@ -10,20 +10,18 @@ use Rattle.word_ir.specs.declared.placed.Home.{Home}
 use Rattle.word_ir.specs.declared.placed.Home.TheVariants as home
 use Rattle.word_ir.specs.declared.words.Words.{Words}
 use Rattle.word_ir.specs.Storage.{static_at}
-use Rattle.word_ir.specs.WholePlaced.{farthest}
 use Rattle.word_ir.specs.Whole.{IsOperand}
 use Rattle.m68020_code.specs.declared.instr.Ea.{Ea}
 use Rattle.m68020_code.specs.declared.instr.Ea.TheVariants.{D, A, Ind, Post, Pre, Disp, Abs, Imm}
 use Rattle.m68020_code.specs.declared.instr.Ea.TheVariants as ea
-use Rattle.m68020_code.specs.declared.instr.Instr.{Instr}
-use Rattle.m68020_code.specs.declared.instr.Instr.TheVariants.{MoveL, MoveaL, Lea, AddiL}
-use Rattle.m68020_code.specs.Table.{is_row, is_all, is_data_mode, is_alter_mode, fits}
+use Rattle.m68020_code.specs.declared.instr.Instr.TheVariants.{MoveL, MoveaL, Lea}
+use Rattle.m68020_code.specs.Table.{is_row, is_all, is_data_mode, is_alter_mode}
 use Rattle.m68020_asm.specs.declared.item.Item.{Item}
 use Rattle.m68020_asm.specs.declared.item.Item.TheVariants.{Plain, Label, Branch, CodeAddr}
 use Rattle.m68020_asm.specs.Items.{is_branch}
 use Rattle.lap_items.specs.Homes.{home_of, at_home, put_into}
 use Rattle.lap_items.specs.Operands.{index_d, index_a, slot_items, source_items, source_of, load_items, settling, settled, settled_items}
-use Rattle.lap_items.specs.Storage.{is_near, far_items, from_register, base_items, base_of, access_items, access_of, read_items, kept_items, kept_of, write_items, index_items, short_of, byte_base_items, byte_of, read_byte_items}
+use Rattle.lap_items.specs.Storage.{is_near, far_items, from_register}
 
 -- an item that is no label
 abbrev pub IsCode : ℕ → Item → Type 0

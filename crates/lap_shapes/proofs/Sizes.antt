@@ -1,8 +1,7 @@
 -- How many bytes operands, operations and ends take at most.
-use Rattle.std.proofs.Common.{◌≡◌, ℕ, zero, suc, ◌+◌, ◌-◌, ◌*◌, ◌/◌, ◌%◌, ◌<◌, ◌≤◌, ◌==◌, nat_lt, nat_le, Bool, true, false, ℤ, pos, negsuc, ◌+ℤ◌, List, [], ◌∷◌, ◌++◌, length, refl, ap, sym, ◌∙◌, arith, inl, inr, length-append}
+use Rattle.std.proofs.Common.{◌≡◌, ℕ, zero, suc, ◌+◌, ◌*◌, ◌/◌, ◌%◌, ◌≤◌, ◌==◌, nat_lt, nat_le, Bool, true, false, ℤ, pos, negsuc, ◌+ℤ◌, List, [], ◌∷◌, ◌++◌, length, refl, ap, arith, inl, inr, length-append}
 use Rattle.std.specs.Prelude.{if◌then◌else◌, min}
 use Rattle.std.proofs.lemmas.Bool.{leb-true, cases_lt}
-use Rattle.t_base.specs.declared.basics.Var.{Var}
 use Rattle.word_ir.specs.declared.operands.Operand.{Operand}
 use Rattle.word_ir.specs.declared.operands.Operand.TheVariants as operand
 use Rattle.word_ir.specs.declared.placed.Home.{Home}
@@ -17,17 +16,17 @@ use Rattle.m68020_code.specs.declared.instr.Ea.TheVariants.{D, A, Ind, Post, Pre
 use Rattle.m68020_code.specs.declared.instr.Ea.TheVariants as ea
 use Rattle.m68020_code.specs.declared.instr.Instr.TheVariants.{MoveL, MoveB, MoveaL, Moveq, Lea, Trap, AddL, SubL, AndL, OrL, CmpL, AddaL, AddiL, MulsL, DivslL}
 use Rattle.m68020_code.specs.declared.instr.Cond.TheVariants.{Cs, Vs}
-use Rattle.m68020_code.specs.Table.{extension, spelling, fits}
+use Rattle.m68020_code.specs.Table.{extension, fits}
 use Rattle.m68020_step.specs.Word.{sum_of, unsigned}
 use Rattle.m68020_asm.specs.declared.item.Item.{Item}
-use Rattle.m68020_asm.specs.declared.item.Item.TheVariants.{Plain, Label, Branch, CodeAddr}
+use Rattle.m68020_asm.specs.declared.item.Item.TheVariants.{Plain, Branch}
 use Rattle.m68020_asm.specs.Items.{size_of}
 use Rattle.lap_items.specs.Homes.{home_of, at_home, put_into}
 use Rattle.lap_items.specs.Operands.{index_d, index_a, slot_items, source_items, source_of, load_items, settling, settled, settled_items}
-use Rattle.lap_items.specs.Storage.{is_near, far_items, from_register, base_items, base_of, access_items, access_of, read_items, kept_items, kept_of, write_items, index_items, short_of, byte_base_items, byte_of, read_byte_items}
+use Rattle.lap_items.specs.Storage.{is_near, far_items, from_register, base_items, base_of, access_items, access_of, read_items, kept_items, kept_of, write_items, index_items, byte_base_items, byte_of, read_byte_items}
 use Rattle.lap_items.specs.Arithmetic.{left_shift, right_shift, repeated, left_items, right_items, shift_items, computing_items, result_in, arith_items}
-use Rattle.lap_items.specs.Services.{no_service, with_one_items, fault_items, is_one, left_items as room_items, full_items, service_items}
-use Rattle.lap_items.specs.Operations.{move_items, take_items, bytes_of_words, push_items, op_items}
+use Rattle.lap_items.specs.Services.{with_one_items, fault_items, is_one, left_items as room_items, full_items, service_items}
+use Rattle.lap_items.specs.Operations.{move_items, take_items, push_items, op_items}
 use Rattle.lap_shapes.specs.Sizes.{shift_bytes, arith_bytes, op_bytes}
 
 -- with the widest branches
@@ -172,20 +171,20 @@ rest_bytes items n most few = by (n == 0) where
 lefts_small : (over n : ℕ) → n ≤ 8 → bytes_in (left_items over n) ≤ 8
 lefts_small over n small = elim (cases_lt n 8) [
   | inl less ↦
-    let none : n / 8 ≡ 0 = omega (arith, less) in
-    let items : List Item = left_shift over (n % 8) in
-    omega (arith, bytes_append (repeated (left_shift over 8) (n / 8)) (if n % 8 == 0 then [] else items), rest_bytes items (n % 8) 8 (omega arith), ap (λ k. bytes_in (repeated (left_shift over 8) k)) none)
+      let none : n / 8 ≡ 0 = omega (arith, less) in
+      let items : List Item = left_shift over (n % 8) in
+      omega (arith, bytes_append (repeated (left_shift over 8) (n / 8)) (if n % 8 == 0 then [] else items), rest_bytes items (n % 8) 8 (omega arith), ap (λ k. bytes_in (repeated (left_shift over 8) k)) none)
   | inr eight ↦
-    let is : n ≡ 8 = omega (arith, eight) in
-    rw is (omega arith)
+      let is : n ≡ 8 = omega (arith, eight) in
+      rw is (omega arith)
 ]
 
 lefts_bytes : (over n : ℕ) → n ≤ 32 → bytes_in (left_items over n) ≤ 32
 lefts_bytes over n few = elim (cases_lt n 32) [
   | inl less ↦
-    let items : List Item = left_shift over (n % 8) in
-    let eights : n / 8 ≤ 3 = omega (arith, less) in
-    omega (arith, bytes_append (repeated (left_shift over 8) (n / 8)) (if n % 8 == 0 then [] else items), repeated_bytes (left_shift over 8) (n / 8) 8 (omega arith), rest_bytes items (n % 8) 8 (omega arith), eights)
+      let items : List Item = left_shift over (n % 8) in
+      let eights : n / 8 ≤ 3 = omega (arith, less) in
+      omega (arith, bytes_append (repeated (left_shift over 8) (n / 8)) (if n % 8 == 0 then [] else items), repeated_bytes (left_shift over 8) (n / 8) 8 (omega arith), rest_bytes items (n % 8) 8 (omega arith), eights)
   | inr most ↦ let is : n ≡ 32 = omega (arith, most) in rw is (omega arith)
 ]
 
@@ -232,8 +231,13 @@ unfolding fault_items
 fault_bytes homes [] = omega arith
 fault_bytes homes (a ∷ []) = omega (arith, bytes_append (load_items homes a 0) (Plain (Trap 3) ∷ []), load_bytes homes a 0)
 fault_bytes homes (a ∷ b ∷ []) =
-    omega (arith, bytes_append (load_items homes b 6 ++ load_items homes a 7) (Plain (MoveL (D 6) (D 1)) ∷ Plain (MoveL (D 7) (D 0)) ∷ Plain (Trap 3) ∷ []),
-      bytes_append (load_items homes b 6) (load_items homes a 7), load_bytes homes b 6, load_bytes homes a 7)
+    omega (
+      arith,
+      bytes_append (load_items homes b 6 ++ load_items homes a 7) (Plain (MoveL (D 6) (D 1)) ∷ Plain (MoveL (D 7) (D 0)) ∷ Plain (Trap 3) ∷ []),
+      bytes_append (load_items homes b 6) (load_items homes a 7),
+      load_bytes homes b 6,
+      load_bytes homes a 7,
+    )
 fault_bytes homes (a ∷ b ∷ c ∷ rest) = omega arith
 
 full_bytes : (homes : List Home) (args : List Operand) → bytes_in (full_items homes args) ≤ 30
@@ -257,8 +261,12 @@ service_bytes homes number args = by (number == 3) (number == 4) where
 take_bytes : (homes : List Home) (to : Home) (bytes : Operand) (full : ℕ) → bytes_in (take_items homes to bytes full) ≤ 34
 unfolding take_items
 take_bytes homes to bytes full =
-    omega (arith, bytes_append (load_items homes bytes 6) (Plain (MoveL (A 6) (D 7)) ∷ Plain (SubL (A 4) 7) ∷ Plain (CmpL (D 6) 7) ∷ Branch Cs full ∷ Plain (MoveL (A 4) (D 7)) ∷ Plain (AddaL (D 6) 4) ∷ put_into (D 7) to ∷ []),
-      load_bytes homes bytes 6, put_bytes (D 7) to)
+    omega (
+      arith,
+      bytes_append (load_items homes bytes 6) (Plain (MoveL (A 6) (D 7)) ∷ Plain (SubL (A 4) 7) ∷ Plain (CmpL (D 6) 7) ∷ Branch Cs full ∷ Plain (MoveL (A 4) (D 7)) ∷ Plain (AddaL (D 6) 4) ∷ put_into (D 7) to ∷ []),
+      load_bytes homes bytes 6,
+      put_bytes (D 7) to,
+    )
 
 pub ops_within : (homes : List Home) (o : WordOp) → bytes_in (op_items homes o) ≤ op_bytes o
 unfolding op_items move_items read_items read_byte_items write_items arith_items take_items push_items
@@ -266,14 +274,33 @@ ops_within homes (op.Move to from) = omega (arith, bytes_append (source_items fr
 ops_within homes (op.Load to base offset) =
     omega (arith, bytes_append (access_items homes base offset) (put_into (access_of homes base offset) (home_of homes to) ∷ []), put_bytes (access_of homes base offset) (home_of homes to), access_bytes homes base offset)
 ops_within homes (op.LoadByte to base index offset) =
-    omega (arith, bytes_append (load_items homes index 7 ++ byte_base_items homes base offset) (Plain (Moveq (pos 0) 6) ∷ Plain (MoveB (byte_of base offset) (D 6)) ∷ put_into (D 6) (home_of homes to) ∷ []),
-      bytes_append (load_items homes index 7) (byte_base_items homes base offset), load_bytes homes index 7, byte_base_bytes homes base offset, byte_bytes base offset, put_bytes (D 6) (home_of homes to))
+    omega (
+      arith,
+      bytes_append (load_items homes index 7 ++ byte_base_items homes base offset) (Plain (Moveq (pos 0) 6) ∷ Plain (MoveB (byte_of base offset) (D 6)) ∷ put_into (D 6) (home_of homes to) ∷ []),
+      bytes_append (load_items homes index 7) (byte_base_items homes base offset),
+      load_bytes homes index 7,
+      byte_base_bytes homes base offset,
+      byte_bytes base offset,
+      put_bytes (D 6) (home_of homes to),
+    )
 ops_within homes (op.Store base offset from) =
-    omega (arith, bytes_append (kept_items homes from ++ access_items homes base offset) (Plain (MoveL (kept_of homes from) (access_of homes base offset)) ∷ []),
-      bytes_append (kept_items homes from) (access_items homes base offset), move_bytes (kept_of homes from) (access_of homes base offset), kept_bytes homes from, access_bytes homes base offset)
+    omega (
+      arith,
+      bytes_append (kept_items homes from ++ access_items homes base offset) (Plain (MoveL (kept_of homes from) (access_of homes base offset)) ∷ []),
+      bytes_append (kept_items homes from) (access_items homes base offset),
+      move_bytes (kept_of homes from) (access_of homes base offset),
+      kept_bytes homes from,
+      access_bytes homes base offset,
+    )
 ops_within homes (op.Arith to kind a b over) =
-    omega (arith, bytes_append (load_items homes a 7 ++ computing_items homes kind b over) (put_into (D (result_in kind)) (home_of homes to) ∷ []), bytes_append (load_items homes a 7) (computing_items homes kind b over),
-      load_bytes homes a 7, computing_bytes homes kind b over, put_bytes (D (result_in kind)) (home_of homes to))
+    omega (
+      arith,
+      bytes_append (load_items homes a 7 ++ computing_items homes kind b over) (put_into (D (result_in kind)) (home_of homes to) ∷ []),
+      bytes_append (load_items homes a 7) (computing_items homes kind b over),
+      load_bytes homes a 7,
+      computing_bytes homes kind b over,
+      put_bytes (D (result_in kind)) (home_of homes to),
+    )
 ops_within homes (op.Take to bytes full) = take_bytes homes (home_of homes to) bytes full
 ops_within homes (op.Push words full) = omega arith
 ops_within homes (op.Pop words) = omega arith

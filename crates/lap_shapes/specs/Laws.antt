@@ -1,10 +1,10 @@
 -- Laws of the items' shapes.
-use Rattle.std.specs.Prelude.{ℕ, ◌+◌, ◌≤◌, ◌^◌, List, length}
+use Rattle.std.specs.Prelude.{◌+◌, ◌≤◌, ◌^◌, List, length}
 use Rattle.word_ir.specs.declared.placed.Placed.{Placed}
 use Rattle.word_ir.specs.WholePlaced.{IsWholePlaced}
 use Rattle.m68020_code.specs.declared.instr.Width.TheVariants.{Long}
 use Rattle.m68020_asm.specs.declared.item.Item.{Item}
-use Rattle.m68020_asm.specs.Items.{address, code_start, label_count, CanAssemble}
+use Rattle.m68020_asm.specs.Items.{address, code_start, CanAssemble}
 use Rattle.lap_items.specs.Program.{IsEmitted}
 use Rattle.lap_shapes.specs.Sizes.{most_bytes}
 

@@ -1,7 +1,7 @@
 -- How many bytes the items of a program have at most: a table by the kind of each operation and end. Each branch is counted with the
 -- widest displacement, each operand and home as the dearest, a single move of a home's word with 10 bytes, and three of them for
 -- each argument of a jump or an Enter and each parameter.
-use Rattle.std.specs.Prelude.{ℕ, ◌+◌, ◌*◌, nat_le, if◌then◌else◌, ℤ, pos, negsuc, List, length, sum_by}
+use Rattle.std.specs.Prelude.{ℕ, ◌+◌, ◌*◌, nat_le, if◌then◌else◌, ℤ, pos, negsuc, length, sum_by}
 use Rattle.word_ir.specs.declared.words.Arith.{Arith}
 use Rattle.word_ir.specs.declared.words.Arith.TheVariants as arith
 use Rattle.word_ir.specs.declared.words.WordBlock.{WordBlock}
