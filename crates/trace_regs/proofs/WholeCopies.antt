@@ -18,7 +18,7 @@ use Rattle.word_ir.specs.declared.words.WordEnd.TheVariants as last
 use Rattle.word_ir.specs.declared.words.WordBlock.{WordBlock}
 use Rattle.word_ir.specs.declared.words.Words.{Words}
 use Rattle.word_ir.specs.Lines.{Line, Op, Last, lines_of, operands_of, uses_of, exits_of, codes_of, statics_of, binds_of}
-use Rattle.word_ir.specs.Copies.{IsCopyOfBlock, AreCopies}
+use Rattle.word_ir.specs.Copies.{IsCopyOfBlock, AreCopies, IsCopyOf as IsCopyOfWords}
 use Rattle.word_ir.specs.Whole.{each_line, open_blocks, static_code, taken_blocks, jumps_of, jumped_blocks, static_place, named_statics, IsOperand, IsStatic, IsLineThere, most_statics, HasPlaces, vars_at, IsScopedFrom, binders_in, binders, HasScopes, IsShaped, most_entered, HasShapes, IsWhole}
 use Rattle.word_ir.proofs.CopiesWeigh.{by_copies, lines_same}
 
@@ -232,3 +232,9 @@ module _ (old new : Words) (more : ℕ) (h : IsLonger old new more) where
 
   pub longer_whole : IsWhole old → length old.statics.items + more ≤ most_statics → IsWhole new
   longer_whole w few = record { places = has_places w.places few; scopes = has_scopes w.scopes; shapes = has_shapes w.shapes; shared = shared_copy old.shared new.shared h.shared w.shared }
+
+-- a copy of a whole program is whole
+pub copy_whole : (old new : Words) → IsCopyOfWords old new → IsWhole old → IsWhole new
+copy_whole old new h w =
+    let few : length old.statics.items ≤ most_statics = w.places.few in
+    longer_whole old new 0 (record { shared = h.shared; statics = h.statics ∙ sym (append_none old.statics.items); blocks = h.blocks; entry = h.entry }) w (omega (arith, few))

@@ -1,0 +1,12 @@
+pub mod Ruled
+pub mod Terms
+pub mod Steps
+pub mod Kept
+pub mod Marks
+pub mod Shapes
+pub mod Loaded
+pub mod Wholes
+pub mod OneCell
+pub mod Sound
+pub mod Unmarked
+pub mod MarksStay

@@ -1,0 +1,2 @@
+pub mod AssignedCells
+pub mod CellLaws

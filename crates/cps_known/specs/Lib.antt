@@ -1,0 +1,3 @@
+pub mod LiveVariables
+pub mod KnownMarks
+pub mod Binders

@@ -1,0 +1,7 @@
+pub mod Segments
+pub mod Sizes
+pub mod Reading
+pub mod Values
+pub mod Growing
+pub mod Identity
+pub mod Changing

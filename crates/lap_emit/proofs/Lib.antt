@@ -1,0 +1,4 @@
+pub mod MarkLemmas
+pub mod Pairs
+pub mod Writing
+pub mod Shapes

@@ -1,0 +1,10 @@
+pub mod Homes
+pub mod Operands
+pub mod Storage
+pub mod Arithmetic
+pub mod Services
+pub mod Operations
+pub mod Moves
+pub mod Ends
+pub mod Program
+pub mod Laws

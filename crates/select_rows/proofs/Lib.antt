@@ -1,0 +1,12 @@
+pub mod Keeping
+pub mod KindTags
+pub mod Checks
+pub mod Results
+pub mod NumberRows
+pub mod KindRows
+pub mod DataRows
+pub mod Table
+pub mod Puts
+pub mod Pairs
+pub mod Parts
+pub mod Elements

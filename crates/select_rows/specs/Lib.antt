@@ -1,0 +1,4 @@
+pub mod Macros
+pub mod Kept
+pub mod Codes
+pub mod CheckLaws

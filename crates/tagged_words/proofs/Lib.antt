@@ -1,0 +1,3 @@
+pub mod Fixnums
+pub mod Quotients
+pub mod Chars

@@ -1,0 +1,4 @@
+pub mod Lines
+pub mod Operations
+pub mod Ends
+pub mod Performing

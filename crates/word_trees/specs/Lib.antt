@@ -1,0 +1,4 @@
+pub mod Trees
+pub mod Cores
+pub mod Leads
+pub mod Laws
