@@ -31,3 +31,4 @@ pub mod Starting
 pub mod Keeping
 pub mod Smallness
 pub mod ExampleLaid
+pub mod Enlarging
