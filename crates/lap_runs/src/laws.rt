@@ -1,6 +1,6 @@
 //! Laws of runs of items through several places, as contracts of functions that do nothing.
 
-ghost use Rattle.lap_runs.specs.Laws.{NoneGoes, GoesThen, OneGoes, AddressGoes};
+ghost use Rattle.lap_runs.specs.Laws.{NoneGoes, GoesThen, OneGoes, AddressGoes, HomesGive, VariablesGive, NumbersGive};
 
 /// Runs are put together from those of single items.
 pub fn runs_add_up()
@@ -12,4 +12,12 @@ pub fn runs_add_up()
 pub fn one_item_goes()
     ensures one { OneGoes }
     ensures address { AddressGoes }
+{}
+
+/// Homes with a word, variables, and words that are written out give their long words as operands of instructions, and change no
+/// register.
+pub fn operands_give()
+    ensures homes { HomesGive }
+    ensures variables { VariablesGive }
+    ensures numbers { NumbersGive }
 {}
