@@ -8,12 +8,15 @@ use Rattle.m68020_step.specs.declared.registers.Effect.TheVariants.{Nothing}
 use Rattle.m68020_step.specs.Moves.{load_effective_address}
 use Rattle.m68020_step.specs.Operand.{with_pc, with_address, address_of}
 use Rattle.m68020_step.specs.Step.{State, executed, with_effect, after as carried}
-use Rattle.m68020_asm.specs.Run.{address_in}
+use Rattle.m68020_asm.specs.declared.item.Item.TheVariants.{Branch}
+use Rattle.m68020_asm.specs.Items.{address}
+use Rattle.m68020_asm.specs.Run.{address_in, program_of}
+use Rattle.m68020_asm.proofs.Runs.{branch_goes as branched}
 use Rattle.machine_services.specs.declared.exit.Exit.{Exit}
 use Rattle.machine_services.specs.Runs.{Progress, stepped, followed}
 use Rattle.item_runs.specs.Runs.{item_act, item_further, item_machine}
 use Rattle.item_runs.proofs.Runs.{item_acts_at}
-use Rattle.lap_runs.specs.Laws.{NoneGoes, GoesThen, OneGoes, AddressGoes}
+use Rattle.lap_runs.specs.Laws.{NoneGoes, GoesThen, OneGoes, AddressGoes, BranchGoes}
 
 after_add : {S : Type 0} (go : S → S) (m n : ℕ) (s : S) → after go (m + n) s ≡ after go n (after go m s)
 after_add go zero n s = let none : 0 + n ≡ n = omega arith in ap (λ k. after go k s) none
@@ -53,3 +56,7 @@ pub address_goes : AddressGoes
 unfolding executed load_effective_address address_of
 address_goes names p s k reg block pc here =
     one_goes names p s k _ (Lea (Abs _) reg) (with_address (with_pc s.registers (address_in p (k + 1))) reg _) Nothing pc here refl refl refl
+
+pub branch_goes : BranchGoes
+branch_goes names items bytes labels h s k j n c can pc here label =
+    one_goes names (program_of items bytes labels h) s k (Branch c n) _ _ Nothing pc here refl (branched items bytes labels can h s.storage (with_pc s.registers (address items h.widths (k + 1))) k j n c here label) refl

@@ -1,5 +1,5 @@
 -- Laws of runs of items through several places.
-use Rattle.std.specs.Prelude.{◌≡◌, ℕ, ◌+◌, ◌*◌, ◌<◌, ◌≤◌, ◌^◌, List, length, slice_get, slice_index, Some, Ok}
+use Rattle.std.specs.Prelude.{◌≡◌, ℕ, ◌+◌, ◌*◌, ◌<◌, ◌≤◌, ◌^◌, List, length, slice_get, slice_index, Some, Ok, if◌then◌else◌}
 use Rattle.t_base.specs.declared.basics.Var.{Var}
 use Rattle.word_ir.specs.declared.operands.Operand.TheVariants as operand
 use Rattle.word_ir.specs.declared.placed.Home.{Home}
@@ -9,16 +9,20 @@ use Rattle.word_ir.specs.Storage.{static_at}
 use Rattle.word_ir.specs.State.{Setting, State as WordState}
 use Rattle.word_ir.specs.Effects.{word_of}
 use Rattle.word_ir.specs.WholePlaced.{farthest}
+use Rattle.m68020_code.specs.declared.instr.Cond.{Cond}
 use Rattle.m68020_code.specs.declared.instr.Ea.{Ea}
 use Rattle.m68020_code.specs.declared.instr.Instr.{Instr}
 use Rattle.m68020_step.specs.declared.machine.Step.TheVariants as step
 use Rattle.m68020_step.specs.declared.registers.Effect.{Effect}
 use Rattle.m68020_step.specs.declared.registers.Registers.{Registers}
+use Rattle.m68020_step.specs.ConditionCodes.{holds}
 use Rattle.m68020_step.specs.Operand.{next, with_pc, with_address, address_at, long_operand}
 use Rattle.m68020_step.specs.Step.{State, executed, answer_of, with_effect}
 use Rattle.m68020_asm.specs.declared.item.Item.{Item}
-use Rattle.m68020_asm.specs.declared.item.Item.TheVariants.{CodeAddr}
-use Rattle.m68020_asm.specs.Run.{Program, address_in, instruction_of}
+use Rattle.m68020_asm.specs.declared.item.Item.TheVariants.{Branch, CodeAddr}
+use Rattle.m68020_asm.specs.Items.{address, IsLabelAt, CanAssemble}
+use Rattle.m68020_asm.specs.Assembled.{IsAssembled}
+use Rattle.m68020_asm.specs.Run.{Program, program_of, address_in, instruction_of}
 use Rattle.lap_items.specs.Homes.{home_of, at_home}
 use Rattle.lap_items.specs.Operands.{source_of}
 use Rattle.lap_runs.specs.Goes.{Goes}
@@ -43,6 +47,13 @@ abbrev pub AddressGoes : Type 0
 AddressGoes =
     (names : List (List ℕ)) (p : Program) (s : State) (k reg block : ℕ) → s.registers.pc ≡ address_in p k → slice_get p.items k ≡ Some (CodeAddr reg block)
     → Goes names p s (record { registers = with_address (with_pc s.registers (address_in p (k + 1))) reg (slice_index p.labels block); storage = s.storage }) 1
+
+-- A branch goes to its label's place where its condition holds, and else on.
+abbrev pub BranchGoes : Type 0
+BranchGoes =
+    (names : List (List ℕ)) (items : List Item) (bytes labels : List ℕ) (h : IsAssembled items bytes labels) (s : State) (k j n : ℕ) (c : Cond) → CanAssemble items → s.registers.pc ≡ address items h.widths k
+    → slice_get items k ≡ Some (Branch c n) → IsLabelAt items n j
+    → Goes names (program_of items bytes labels h) s (record { registers = if holds c s.registers.flags then with_pc s.registers (address items h.widths j) else with_pc s.registers (address items h.widths (k + 1)); storage = s.storage }) 1
 
 -- ---- operands
 

@@ -1,6 +1,6 @@
 //! Laws of runs of items through several places, as contracts of functions that do nothing.
 
-ghost use Rattle.lap_runs.specs.Laws.{NoneGoes, GoesThen, OneGoes, AddressGoes, HomesGive, VariablesGive, NumbersGive};
+ghost use Rattle.lap_runs.specs.Laws.{NoneGoes, GoesThen, OneGoes, AddressGoes, BranchGoes, HomesGive, VariablesGive, NumbersGive};
 
 /// Runs are put together from those of single items.
 pub fn runs_add_up()
@@ -12,6 +12,7 @@ pub fn runs_add_up()
 pub fn one_item_goes()
     ensures one { OneGoes }
     ensures address { AddressGoes }
+    ensures branch { BranchGoes }
 {}
 
 /// Homes with a word, variables, and words that are written out give their long words as operands of instructions, and change no
