@@ -1,10 +1,10 @@
 -- What operands of instructions give.
-use Rattle.std.proofs.Common.{◌≡◌, ℕ, zero, suc, ◌+◌, ◌*◌, ◌<◌, ◌≤◌, ◌%◌, ◌^◌, List, [], ◌∷◌, length, get_or, slice_get, Option, Some, None, pos, refl, ap, sym, subst, ◌∙◌, arith}
+use Rattle.std.proofs.Common.{◌≡◌, ℕ, zero, suc, ◌+◌, ◌*◌, ◌<◌, List, [], ◌∷◌, length, get_or, slice_get, Option, Some, pos, refl, ap, sym, ◌∙◌, arith}
 use Rattle.std.specs.Prelude.{min, Ok, Result}
 use Rattle.std.specs.Option.{option_map_or}
 use Rattle.word_ir.specs.declared.placed.Home.{Home}
 use Rattle.word_ir.specs.declared.placed.Home.TheVariants as home
-use Rattle.word_ir.specs.State.{Keeper, Own, At, held}
+use Rattle.word_ir.specs.State.{Own, At, held}
 use Rattle.m68020_step.specs.declared.registers.Why.{Why}
 use Rattle.m68020_step.specs.Word.{sum_of, unsigned}
 use Rattle.m68020_step.specs.Operand.{Fetched, located, read_long, long_operand, address_of, address_at, or_bad_address, ◌>>=◌}
