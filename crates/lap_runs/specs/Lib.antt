@@ -1,0 +1,3 @@
+pub mod Represents
+pub mod Goes
+pub mod Laws
