@@ -2,4 +2,3 @@ mod Numbers
 mod Outcomes
 mod Reports
 mod Rows
-mod Served

@@ -1,9 +1,9 @@
 //! The commands, each over the folder and the sinks that it needs.
 
 ghost use Rattle.std.specs.Prelude.{◌≡◌};
-ghost use Rattle.orbit_cli.specs.Changes.{change, HasServed, HasTakenAll};
+ghost use Rattle.orbit_cli.specs.Changes.{change};
 ghost use Rattle.orbit_cli.specs.Command.{AreSizes};
-ghost use Rattle.orbit_cli.specs.Outcome.{IfServed, CompileOutcome, CheckOutcome, RunOutcome, ListOutcome, GoOutcome};
+ghost use Rattle.orbit_cli.specs.Outcome.{CompileOutcome, CheckOutcome, RunOutcome, ListOutcome, GoOutcome};
 
 use crate::image::{fetch_listing, load_image};
 use crate::prepare::{compile_and_keep, fetch_counts, keep, prepare};
@@ -22,8 +22,7 @@ pub fn compile_text<F: Folder, E: Sink>(
     folder: &mut F,
     err: &mut E,
 ) -> Status
-    ensures outcome { CompileOutcome F.Folder E.Sink (change folder.old folder.new) (change err.old err.new) src.now img.now result }
-    ensures served { IfServed result (HasServed F.Folder (change folder.old folder.new)) }
+    ensures { CompileOutcome F.Folder E.Sink (change folder.old folder.new) (change err.old err.new) src.now img.now result }
 {
     match compile_and_keep(alloc, src, img, folder) {
         Ok(()) => Status::Done,
@@ -42,9 +41,7 @@ pub fn compile_and_run<F: Folder, S: Sink, E: Sink>(
     err: &mut E,
 ) -> Status
     requires { AreSizes bounds.sizes }
-    ensures outcome { GoOutcome F.Folder S.Sink E.Sink (change folder.old folder.new) (change out.old out.new) (change err.old err.new) src.now img.now bounds result }
-    ensures served { IfServed result (HasServed F.Folder (change folder.old folder.new)) }
-    ensures taken { IfServed result (HasTakenAll S.Sink (change out.old out.new)) }
+    ensures { GoOutcome F.Folder S.Sink E.Sink (change folder.old folder.new) (change out.old out.new) (change err.old err.new) src.now img.now bounds result }
 {
     let ready = match prepare(alloc, src, bounds.sizes, folder) {
         Ok(ready) => ready,
@@ -65,9 +62,7 @@ pub fn check<F: Folder, S: Sink, E: Sink>(
     out: &mut S,
     err: &mut E,
 ) -> Status
-    ensures outcome { CheckOutcome F.Folder S.Sink E.Sink (change folder.old folder.new) (change out.old out.new) (change err.old err.new) src.now result }
-    ensures served { IfServed result (HasServed F.Folder (change folder.old folder.new)) }
-    ensures taken { IfServed result (HasTakenAll S.Sink (change out.old out.new)) }
+    ensures { CheckOutcome F.Folder S.Sink E.Sink (change folder.old folder.new) (change out.old out.new) (change err.old err.new) src.now result }
 {
     match fetch_counts(alloc, src, folder) {
         Ok(counts) => print_counts(counts, out, err),
@@ -85,9 +80,7 @@ pub fn run_image<F: Folder, S: Sink, E: Sink>(
     err: &mut E,
 ) -> Status
     requires { AreSizes bounds.sizes }
-    ensures outcome { RunOutcome F.Folder S.Sink E.Sink (change folder.old folder.new) (change out.old out.new) (change err.old err.new) img.now bounds result }
-    ensures served { IfServed result (HasServed F.Folder (change folder.old folder.new)) }
-    ensures taken { IfServed result (HasTakenAll S.Sink (change out.old out.new)) }
+    ensures { RunOutcome F.Folder S.Sink E.Sink (change folder.old folder.new) (change out.old out.new) (change err.old err.new) img.now bounds result }
 {
     match load_image(alloc, img, bounds.sizes, folder) {
         Ok(loaded) => {
@@ -106,9 +99,7 @@ pub fn list_image<F: Folder, S: Sink, E: Sink>(
     out: &mut S,
     err: &mut E,
 ) -> Status
-    ensures outcome { ListOutcome F.Folder S.Sink E.Sink (change folder.old folder.new) (change out.old out.new) (change err.old err.new) img.now result }
-    ensures served { IfServed result (HasServed F.Folder (change folder.old folder.new)) }
-    ensures taken { IfServed result (HasTakenAll S.Sink (change out.old out.new)) }
+    ensures { ListOutcome F.Folder S.Sink E.Sink (change folder.old folder.new) (change out.old out.new) (change err.old err.new) img.now result }
 {
     match fetch_listing(alloc, img, folder) {
         Ok(text) => print(&text, out, err),

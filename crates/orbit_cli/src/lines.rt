@@ -1,9 +1,9 @@
 //! The lines that are printed, each by a function of its own.
 
-ghost use Rattle.std.specs.Prelude.{◌≡◌, ◌<◌};
+ghost use Rattle.std.specs.Prelude.{◌≡◌, ◌<◌, OnOk, OnErr};
 ghost use Rattle.std.specs.Fmt.{signed_decimal};
-ghost use Rattle.t_ports.specs.Pieces.{text_of};
-ghost use Rattle.orbit_cli.specs.Changes.{change, IsPut};
+ghost use Rattle.t_ports.specs.Causes.{HasCause};
+ghost use Rattle.t_ports.specs.Pieces.{TookFront};
 ghost use Rattle.orbit_cli.specs.Lines.{unnamed_text, character_text, kind_text, line_end, value_line, fault_words, operand_of, fault_line, region_name, full_line, limit_line, stop_name, hex_digit, hex_address, stop_line, read_kind_name, syntax_kind_name, source_kind_name, located_line, source_line, limit_name, limit_count, limit_number, count_line, over_line, counts_line, image_kind_name, place_line, bad_image_line, unread_line, long_line};
 
 use crate::refusal::SourceKind;
@@ -17,20 +17,6 @@ use t_ports::ports::{Failed, Sink};
 use t_reader::ReadKind;
 use t_rows::SyntaxKind;
 
-// Puts the pieces one after the other.
-fn put_pieces<S: Sink>(sink: &mut S, pieces: &[&[u8]]) -> Result<(), Failed>
-    ensures put { IsPut S.Sink (change sink.old sink.new) (text_of pieces.now) result }
-{
-    put_all(sink, pieces)
-}
-
-/// Puts a text in one piece.
-pub fn put_text<S: Sink>(sink: &mut S, text: &[u8]) -> Result<(), Failed>
-    ensures put { IsPut S.Sink (change sink.old sink.new) text.now result }
-{
-    sink.put(text)
-}
-
 // What ends the last line of output whose last byte is this one.
 fn end_of_line<'a>(last: Option<u8>) -> &'a [u8]
     ensures { result.now ≡ line_end last }
@@ -43,14 +29,18 @@ fn end_of_line<'a>(last: Option<u8>) -> &'a [u8]
 
 /// Puts the line of a value that is printed as the text, behind output whose last byte is `last`.
 pub fn put_value<S: Sink>(sink: &mut S, last: Option<u8>, text: &[u8]) -> Result<(), Failed>
-    ensures put { IsPut S.Sink (change sink.old sink.new) (value_line last text.now) result }
+    ensures ok { OnOk result (S.took sink.old (value_line last text.now) sink.new) }
+    ensures part { OnErr result (TookFront S.took sink.old (value_line last text.now) sink.new) }
+    ensures cause { HasCause (S.faults sink.old) (S.faults sink.new) result }
 {
-    put_pieces(sink, &[end_of_line(last), b"value ", text, b"\n"])
+    put_all(sink, &[end_of_line(last), b"value ", text, b"\n"])
 }
 
 /// The same of a number.
 pub fn put_number_value<S: Sink>(sink: &mut S, last: Option<u8>, number: i32) -> Result<(), Failed>
-    ensures put { IsPut S.Sink (change sink.old sink.new) (value_line last (signed_decimal number)) result }
+    ensures ok { OnOk result (S.took sink.old (value_line last (signed_decimal number)) sink.new) }
+    ensures part { OnErr result (TookFront S.took sink.old (value_line last (signed_decimal number)) sink.new) }
+    ensures cause { HasCause (S.faults sink.old) (S.faults sink.new) result }
 {
     let mut buffer = Buffer::new();
     put_value(sink, last, buffer.format(number).as_bytes())
@@ -58,7 +48,9 @@ pub fn put_number_value<S: Sink>(sink: &mut S, last: Option<u8>, number: i32) ->
 
 // The same of a character that has no name.
 fn put_unnamed_value<S: Sink>(sink: &mut S, last: Option<u8>, code: u8) -> Result<(), Failed>
-    ensures put { IsPut S.Sink (change sink.old sink.new) (value_line last (unnamed_text code)) result }
+    ensures ok { OnOk result (S.took sink.old (value_line last (unnamed_text code)) sink.new) }
+    ensures part { OnErr result (TookFront S.took sink.old (value_line last (unnamed_text code)) sink.new) }
+    ensures cause { HasCause (S.faults sink.old) (S.faults sink.new) result }
 {
     if code.is_ascii_graphic() {
         return put_value(sink, last, &[b'#', b'\\', code]);
@@ -71,7 +63,9 @@ fn put_unnamed_value<S: Sink>(sink: &mut S, last: Option<u8>, code: u8) -> Resul
 
 /// The same of a character.
 pub fn put_character_value<S: Sink>(sink: &mut S, last: Option<u8>, code: u8) -> Result<(), Failed>
-    ensures put { IsPut S.Sink (change sink.old sink.new) (value_line last (character_text code)) result }
+    ensures ok { OnOk result (S.took sink.old (value_line last (character_text code)) sink.new) }
+    ensures part { OnErr result (TookFront S.took sink.old (value_line last (character_text code)) sink.new) }
+    ensures cause { HasCause (S.faults sink.old) (S.faults sink.new) result }
 {
     match code {
         b' ' => put_value(sink, last, b"#\\space"),
@@ -122,15 +116,16 @@ fn words_of(fault: Fault) -> (&'static [u8], Option<i32>)
 
 /// Puts the line of a fault.
 pub fn put_fault<S: Sink>(sink: &mut S, fault: Fault) -> Result<(), Failed>
-    ensures put { IsPut S.Sink (change sink.old sink.new) (fault_line fault) result }
+    ensures ok { OnOk result (S.took sink.old (fault_line fault) sink.new) }
+    ensures cause { HasCause (S.faults sink.old) (S.faults sink.new) result }
 {
     let (words, operand) = words_of(fault);
     match operand {
-        None => put_pieces(sink, &[b"fault ", words, b"\n"]),
+        None => put_all(sink, &[b"fault ", words, b"\n"]),
         Some(number) => {
             let mut buffer = Buffer::new();
             let number = buffer.format(number).as_bytes();
-            put_pieces(sink, &[b"fault ", words, b" ", number, b"\n"])
+            put_all(sink, &[b"fault ", words, b" ", number, b"\n"])
         }
     }
 }
@@ -143,13 +138,14 @@ fn region(stack: bool) -> &'static [u8]
 
 /// Puts the line of a full heap or stack, with the bytes asked for and left.
 pub fn put_full<S: Sink>(sink: &mut S, stack: bool, asked: u32, left: u32) -> Result<(), Failed>
-    ensures put { IsPut S.Sink (change sink.old sink.new) (full_line stack asked left) result }
+    ensures ok { OnOk result (S.took sink.old (full_line stack asked left) sink.new) }
+    ensures cause { HasCause (S.faults sink.old) (S.faults sink.new) result }
 {
     let mut asked_text = Buffer::new();
     let mut left_text = Buffer::new();
     let asked = asked_text.format(asked).as_bytes();
     let left = left_text.format(left).as_bytes();
-    put_pieces(
+    put_all(
         sink,
         &[
             region(stack),
@@ -164,11 +160,12 @@ pub fn put_full<S: Sink>(sink: &mut S, stack: bool, asked: u32, left: u32) -> Re
 
 /// Puts the line of a run that did not end within so many instructions.
 pub fn put_limit<S: Sink>(sink: &mut S, steps: u64) -> Result<(), Failed>
-    ensures put { IsPut S.Sink (change sink.old sink.new) (limit_line steps) result }
+    ensures ok { OnOk result (S.took sink.old (limit_line steps) sink.new) }
+    ensures cause { HasCause (S.faults sink.old) (S.faults sink.new) result }
 {
     let mut buffer = Buffer::new();
     let steps = buffer.format(steps).as_bytes();
-    put_pieces(sink, &[b"step limit: ", steps, b"\n"])
+    put_all(sink, &[b"step limit: ", steps, b"\n"])
 }
 
 fn name_of_stop(why: Why) -> &'static [u8]
@@ -213,9 +210,10 @@ fn digits_of(address: u32) -> [u8; 8]
 
 /// Puts the line of a stop of the machine at an address.
 pub fn put_stop<S: Sink>(sink: &mut S, why: Why, at: u32) -> Result<(), Failed>
-    ensures put { IsPut S.Sink (change sink.old sink.new) (stop_line why at) result }
+    ensures ok { OnOk result (S.took sink.old (stop_line why at) sink.new) }
+    ensures cause { HasCause (S.faults sink.old) (S.faults sink.new) result }
 {
-    put_pieces(
+    put_all(
         sink,
         &[
             b"machine stop ",
@@ -274,9 +272,10 @@ fn put_located<S: Sink>(
     column: &str,
     refusal: &[u8],
 ) -> Result<(), Failed>
-    ensures put { IsPut S.Sink (change sink.old sink.new) (located_line src.now line.now column.now refusal.now) result }
+    ensures ok { OnOk result (S.took sink.old (located_line src.now line.now column.now refusal.now) sink.new) }
+    ensures cause { HasCause (S.faults sink.old) (S.faults sink.new) result }
 {
-    put_pieces(
+    put_all(
         sink,
         &[
             src.as_bytes(),
@@ -299,7 +298,8 @@ pub fn put_source_fault<S: Sink>(
     column: u32,
     kind: SourceKind,
 ) -> Result<(), Failed>
-    ensures put { IsPut S.Sink (change sink.old sink.new) (source_line src.now line column kind) result }
+    ensures ok { OnOk result (S.took sink.old (source_line src.now line column kind) sink.new) }
+    ensures cause { HasCause (S.faults sink.old) (S.faults sink.new) result }
 {
     let mut line_text = Buffer::new();
     let mut column_text = Buffer::new();
@@ -346,9 +346,10 @@ fn put_count<S: Sink>(
     count: &str,
     number: &str,
 ) -> Result<(), Failed>
-    ensures put { IsPut S.Sink (change sink.old sink.new) (count_line src.now limit.now count.now number.now) result }
+    ensures ok { OnOk result (S.took sink.old (count_line src.now limit.now count.now number.now) sink.new) }
+    ensures cause { HasCause (S.faults sink.old) (S.faults sink.new) result }
 {
-    put_pieces(
+    put_all(
         sink,
         &[
             src.as_bytes(),
@@ -365,7 +366,8 @@ fn put_count<S: Sink>(
 
 /// Puts the line of a text that is over a limit.
 pub fn put_over<S: Sink>(sink: &mut S, src: &str, fault: LimitFault) -> Result<(), Failed>
-    ensures put { IsPut S.Sink (change sink.old sink.new) (over_line src.now fault) result }
+    ensures ok { OnOk result (S.took sink.old (over_line src.now fault) sink.new) }
+    ensures cause { HasCause (S.faults sink.old) (S.faults sink.new) result }
 {
     let mut count_text = Buffer::new();
     let mut number_text = Buffer::new();
@@ -376,13 +378,15 @@ pub fn put_over<S: Sink>(sink: &mut S, src: &str, fault: LimitFault) -> Result<(
 
 /// Puts the line of a text's counts: the nodes of its largest form, and its weight.
 pub fn put_counts<S: Sink>(sink: &mut S, nodes: u32, weight: u64) -> Result<(), Failed>
-    ensures put { IsPut S.Sink (change sink.old sink.new) (counts_line nodes weight) result }
+    ensures ok { OnOk result (S.took sink.old (counts_line nodes weight) sink.new) }
+    ensures part { OnErr result (TookFront S.took sink.old (counts_line nodes weight) sink.new) }
+    ensures cause { HasCause (S.faults sink.old) (S.faults sink.new) result }
 {
     let mut nodes_text = Buffer::new();
     let mut weight_text = Buffer::new();
     let nodes = nodes_text.format(nodes);
     let weight = weight_text.format(weight);
-    put_pieces(
+    put_all(
         sink,
         &[
             b"nodes ",
@@ -408,9 +412,10 @@ fn name_of_image_kind<'a>(kind: ImageKind) -> &'a [u8]
 
 // Puts a name, the kind of what fails and its place.
 fn put_place<S: Sink>(sink: &mut S, img: &str, kind: &[u8], at: &str) -> Result<(), Failed>
-    ensures put { IsPut S.Sink (change sink.old sink.new) (place_line img.now kind.now at.now) result }
+    ensures ok { OnOk result (S.took sink.old (place_line img.now kind.now at.now) sink.new) }
+    ensures cause { HasCause (S.faults sink.old) (S.faults sink.new) result }
 {
-    put_pieces(
+    put_all(
         sink,
         &[img.as_bytes(), b": ", kind, b" at ", at.as_bytes(), b"\n"],
     )
@@ -423,7 +428,8 @@ pub fn put_bad_image<S: Sink>(
     kind: ImageKind,
     at: u32,
 ) -> Result<(), Failed>
-    ensures put { IsPut S.Sink (change sink.old sink.new) (bad_image_line img.now kind at) result }
+    ensures ok { OnOk result (S.took sink.old (bad_image_line img.now kind at) sink.new) }
+    ensures cause { HasCause (S.faults sink.old) (S.faults sink.new) result }
 {
     let mut buffer = Buffer::new();
     put_place(sink, img, name_of_image_kind(kind), buffer.format(at))
@@ -431,14 +437,16 @@ pub fn put_bad_image<S: Sink>(
 
 /// Puts the line of a file that could not be read.
 pub fn put_unread<S: Sink>(sink: &mut S, name: &str) -> Result<(), Failed>
-    ensures put { IsPut S.Sink (change sink.old sink.new) (unread_line name.now) result }
+    ensures ok { OnOk result (S.took sink.old (unread_line name.now) sink.new) }
+    ensures cause { HasCause (S.faults sink.old) (S.faults sink.new) result }
 {
-    put_pieces(sink, &[b"cannot read: ", name.as_bytes(), b"\n"])
+    put_all(sink, &[b"cannot read: ", name.as_bytes(), b"\n"])
 }
 
 /// Puts the line of a file that is too long.
 pub fn put_long<S: Sink>(sink: &mut S, name: &str) -> Result<(), Failed>
-    ensures put { IsPut S.Sink (change sink.old sink.new) (long_line name.now) result }
+    ensures ok { OnOk result (S.took sink.old (long_line name.now) sink.new) }
+    ensures cause { HasCause (S.faults sink.old) (S.faults sink.new) result }
 {
-    put_pieces(sink, &[b"too long: ", name.as_bytes(), b"\n"])
+    put_all(sink, &[b"too long: ", name.as_bytes(), b"\n"])
 }

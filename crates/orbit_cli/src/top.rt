@@ -7,7 +7,6 @@ ghost use Rattle.orbit_cli.specs.Changes.{change, Says};
 ghost use Rattle.orbit_cli.specs.Command.{view_of, HasBounds};
 ghost use Rattle.orbit_cli.specs.Outcome.{Outcome, CommandOutcome};
 
-use crate::lines::put_text;
 use crate::commands::{check, compile_and_run, compile_text, list_image, run_image};
 use crate::status::Status;
 use crate::words::{Command, read_words};
@@ -15,13 +14,11 @@ use std::alloc::Global;
 use t_ports::ports::{Folder, Sink};
 
 // Puts the usage line.
-#[tactic(auto, using(crate::proofs::Reports::says))]
 fn misused<E: Sink>(err: &mut E) -> Status
     ensures status { result ≡ Status.Usage }
     ensures noted { Says E.Sink (change err.old err.new) usage_line }
 {
-    let _ = put_text(
-        err,
+    let _ = err.put(
         b"usage: orbit compile SRC IMG | run IMG HEAP STACK STEPS | go SRC IMG HEAP STACK STEPS | check SRC | list IMG | trial N STEPS\n",
     );
     Status::Usage
