@@ -1,3 +1,4 @@
 pub mod Reading
 pub mod Gets
 pub mod Blocks
+pub mod Pops

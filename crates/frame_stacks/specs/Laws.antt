@@ -1,5 +1,5 @@
 -- What operations on frames come to.
-use Rattle.std.specs.Prelude.{◌≡◌, ℕ, ◌+◌, ◌/◌, ◌%◌, ◌^◌, ◌<◌, ◌≤◌, List, [], ◌∷◌, length, replicate, slice_get, Some, None}
+use Rattle.std.specs.Prelude.{◌≡◌, ℕ, ◌+◌, ◌/◌, ◌%◌, ◌^◌, ◌<◌, ◌≤◌, List, [], ◌∷◌, length, replicate, slice_get, Some, None, false}
 use Rattle.t_base.specs.declared.basics.Var.{Var}
 use Rattle.std.specs.List.{AllByRecursion}
 use Rattle.word_ir.specs.declared.operands.Operand.{Operand}
@@ -10,7 +10,7 @@ use Rattle.word_ir.specs.Storage.{Sizes, STACK_START}
 use Rattle.word_ir.specs.Step.{words_in}
 use Rattle.word_ir.specs.Stamps.{Stamp, Stamped}
 use Rattle.frame_ir.specs.Values.{Value, Frame, Env, value_in}
-use Rattle.frame_ir.specs.States.{State}
+use Rattle.frame_ir.specs.States.{State, with_live}
 use Rattle.frame_ir.specs.Arguments.{bound}
 use Rattle.word_trees.specs.Trees.{Tree, Spells}
 use Rattle.word_trees.specs.Cores.{Core, at, word_in, stamp_in}
@@ -20,7 +20,7 @@ use Rattle.frame_words.specs.Contents.{Escapes}
 use Rattle.select_rows.specs.Kept.{IsOlder}
 use Rattle.frame_stacks.specs.Stacks.{Stack, Ways, StandsFor}
 use Rattle.frame_stacks.specs.Frames.{HoldsFrames, Holds}
-use Rattle.frame_stacks.specs.Codes.{frame_get, jump, give_back}
+use Rattle.frame_stacks.specs.Codes.{frame_get, pop_frame, jump, give_back}
 
 -- ---- at first
 
@@ -48,6 +48,13 @@ FrameGetsArePerformed =
     (words : Words) (sizes : Sizes) (l : Layout) (e : Escapes) (g : Ways) (t : ℕ) (s : State) (env : Env) (c : Core) (to : Var) (slot birth : ℕ) (older : List ℕ) (f : Frame) (v : Value) (rest : Tree)
     → Holds sizes l e g t s env c → s.live ≡ birth ∷ older → slice_get s.frames birth ≡ Some f → value_in f slot ≡ Some v → to.0 < t
     → Performs words sizes (GoesOn words sizes l e g t s ((to.0, v) ∷ env) rest) 1 2 (frame_get to slot rest) c
+
+-- the youngest frame, a Push's, is gone
+abbrev pub PopsArePerformed : Type 0
+PopsArePerformed =
+    (words : Words) (sizes : Sizes) (l : Layout) (e : Escapes) (g : Ways) (t : ℕ) (s : State) (env : Env) (c : Core) (birth : ℕ) (older : List ℕ) (f : Frame) (rest : Tree)
+    → Holds sizes l e g t s env c → s.live ≡ birth ∷ older → slice_get s.frames birth ≡ Some f → f.catch ≡ false
+    → Performs words sizes (GoesOn words sizes l e g t (with_live s older) env rest) 1 4 (pop_frame t rest) c
 
 -- ---- going to a block
 

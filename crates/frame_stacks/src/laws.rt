@@ -1,6 +1,6 @@
 //! Laws of live frames in the stack, in stamped runs.
 
-ghost use Rattle.frame_stacks.specs.Laws.{NoFramesAreHeld, FrameGetsArePerformed, JumpsArePerformed, ReturnsArePerformed};
+ghost use Rattle.frame_stacks.specs.Laws.{NoFramesAreHeld, FrameGetsArePerformed, PopsArePerformed, JumpsArePerformed, ReturnsArePerformed};
 
 /// A stack in which nothing was pushed holds the frames of a state that has none.
 pub fn frames_begin()
@@ -18,4 +18,9 @@ pub fn frames_are_read()
 pub fn blocks_begin()
     ensures jumps { JumpsArePerformed }
     ensures returns { ReturnsArePerformed }
+{}
+
+/// The code that pops the youngest frame, in front of the rest of a block, comes to the rest, where the older frames are held.
+pub fn frames_are_popped()
+    ensures { PopsArePerformed }
 {}
