@@ -2,3 +2,4 @@ pub mod Reading
 pub mod Gets
 pub mod Blocks
 pub mod Pops
+pub mod Pushes

@@ -1,5 +1,6 @@
 -- What operations on frames come to.
-use Rattle.std.specs.Prelude.{◌≡◌, ℕ, ◌+◌, ◌/◌, ◌%◌, ◌^◌, ◌<◌, ◌≤◌, List, [], ◌∷◌, length, replicate, slice_get, Some, None, false}
+use Rattle.std.specs.Prelude.{◌≡◌, ℕ, ◌+◌, ◌*◌, ◌/◌, ◌%◌, ◌^◌, ◌<◌, ◌≤◌, List, [], ◌∷◌, length, replicate, slice_get, Some, None, true, false}
+use Rattle.program_runs.specs.Runs.{Full}
 use Rattle.t_base.specs.declared.basics.Var.{Var}
 use Rattle.std.specs.List.{AllByRecursion}
 use Rattle.word_ir.specs.declared.operands.Operand.{Operand}
@@ -9,18 +10,18 @@ use Rattle.word_ir.specs.Word.{Word, Number}
 use Rattle.word_ir.specs.Storage.{Sizes, STACK_START}
 use Rattle.word_ir.specs.Step.{words_in}
 use Rattle.word_ir.specs.Stamps.{Stamp, Stamped}
-use Rattle.frame_ir.specs.Values.{Value, Frame, Env, value_in}
+use Rattle.frame_ir.specs.Values.{Value, Frame, Env, value_in, frame_words}
 use Rattle.frame_ir.specs.States.{State, with_live}
 use Rattle.frame_ir.specs.Arguments.{bound}
 use Rattle.word_trees.specs.Trees.{Tree, Spells}
-use Rattle.word_trees.specs.Cores.{Core, at, word_in, stamp_in}
+use Rattle.word_trees.specs.Cores.{Core, at, ended, stack_left, word_in, stamp_in}
 use Rattle.word_trees.specs.Leads.{Performs}
 use Rattle.frame_words.specs.Layouts.{Layout}
 use Rattle.frame_words.specs.Contents.{Escapes}
 use Rattle.select_rows.specs.Kept.{IsOlder}
-use Rattle.frame_stacks.specs.Stacks.{Stack, Ways, StandsFor}
+use Rattle.frame_stacks.specs.Stacks.{Stack, Ways, words_of_frames, StandsFor}
 use Rattle.frame_stacks.specs.Frames.{HoldsFrames, Holds}
-use Rattle.frame_stacks.specs.Codes.{frame_get, pop_frame, jump, give_back}
+use Rattle.frame_stacks.specs.Codes.{frame_get, pop_frame, push_frame, jump, give_back}
 
 -- ---- at first
 
@@ -55,6 +56,22 @@ PopsArePerformed =
     (words : Words) (sizes : Sizes) (l : Layout) (e : Escapes) (g : Ways) (t : ℕ) (s : State) (env : Env) (c : Core) (birth : ℕ) (older : List ℕ) (f : Frame) (rest : Tree)
     → Holds sizes l e g t s env c → s.live ≡ birth ∷ older → slice_get s.frames birth ≡ Some f → f.catch ≡ false
     → Performs words sizes (GoesOn words sizes l e g t (with_live s older) env rest) 1 4 (pop_frame t rest) c
+
+-- The run has ended for want of stack: what was asked for, the bytes of the frame, is more than the live frames leave. Nothing has changed.
+pub record IsOutOfStack (sizes : Sizes) (s : State) (c : Core) (f : Frame) (x : Stamped) : Type 0 where
+  pub left : ℕ
+  pub room : left + 4 * words_of_frames s.frames s.live ≡ sizes.stack
+  pub lacking : left < 4 * frame_words f
+  pub block : ℕ
+  pub place : ℕ
+  pub moves : ℕ
+  pub steps : ℕ
+  pub there : x ≡ ended c block place moves steps (Some (Full true (4 * frame_words f) left))
+
+abbrev pub PushesEnd : Type 0
+PushesEnd =
+    (words : Words) (sizes : Sizes) (l : Layout) (e : Escapes) (g : Ways) (t : ℕ) (s : State) (env : Env) (c : Core) (f : Frame) (kept : List Operand) (rest : Tree)
+    → Holds sizes l e g t s env c → stack_left c < 4 * frame_words f → Performs words sizes (IsOutOfStack sizes s c f) 1 4 (push_frame (g.begins f.back) (frame_words f) kept rest) c
 
 -- ---- going to a block
 

@@ -1,6 +1,6 @@
 //! Laws of live frames in the stack, in stamped runs.
 
-ghost use Rattle.frame_stacks.specs.Laws.{NoFramesAreHeld, FrameGetsArePerformed, PopsArePerformed, JumpsArePerformed, ReturnsArePerformed};
+ghost use Rattle.frame_stacks.specs.Laws.{NoFramesAreHeld, FrameGetsArePerformed, PopsArePerformed, PushesEnd, JumpsArePerformed, ReturnsArePerformed};
 
 /// A stack in which nothing was pushed holds the frames of a state that has none.
 pub fn frames_begin()
@@ -23,4 +23,9 @@ pub fn blocks_begin()
 /// The code that pops the youngest frame, in front of the rest of a block, comes to the rest, where the older frames are held.
 pub fn frames_are_popped()
     ensures { PopsArePerformed }
+{}
+
+/// The code that pushes a frame ends the run where the stack has no room for it, with what was asked and what was left.
+pub fn no_frame_is_pushed_without_room()
+    ensures { PushesEnd }
 {}
