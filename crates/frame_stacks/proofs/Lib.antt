@@ -3,3 +3,4 @@ pub mod Gets
 pub mod Blocks
 pub mod Pops
 pub mod Pushes
+pub mod Raising

@@ -7,20 +7,21 @@ use Rattle.word_ir.specs.declared.operands.Operand.{Operand}
 use Rattle.word_ir.specs.declared.words.WordBlock.{WordBlock}
 use Rattle.word_ir.specs.declared.words.Words.{Words}
 use Rattle.word_ir.specs.Word.{Word, Number}
-use Rattle.word_ir.specs.Storage.{Sizes, STACK_START}
+use Rattle.word_ir.specs.Storage.{Sizes, Regions, STACK_START}
 use Rattle.word_ir.specs.Step.{words_in}
 use Rattle.word_ir.specs.Stamps.{Stamp, Stamped}
 use Rattle.frame_ir.specs.Values.{Value, Frame, Env, value_in, frame_words}
-use Rattle.frame_ir.specs.States.{State, with_live}
+use Rattle.frame_ir.specs.States.{State, with_live, with_frame}
 use Rattle.frame_ir.specs.Arguments.{bound}
 use Rattle.word_trees.specs.Trees.{Tree, Spells}
 use Rattle.word_trees.specs.Cores.{Core, at, ended, stack_left, word_in, stamp_in}
 use Rattle.word_trees.specs.Leads.{Performs}
 use Rattle.frame_words.specs.Layouts.{Layout}
 use Rattle.frame_words.specs.Contents.{Escapes}
+use Rattle.frame_words.specs.Holding.{HoldsData}
 use Rattle.select_rows.specs.Kept.{IsOlder}
-use Rattle.frame_stacks.specs.Stacks.{Stack, Ways, words_of_frames, StandsFor}
-use Rattle.frame_stacks.specs.Frames.{HoldsFrames, Holds}
+use Rattle.frame_stacks.specs.Stacks.{Stack, Ways, words_of_frames, StandsFor, pushed_at, IsRaised}
+use Rattle.frame_stacks.specs.Frames.{HoldsAll, HoldsFrames, Holds}
 use Rattle.frame_stacks.specs.Codes.{frame_get, pop_frame, push_frame, jump, give_back}
 
 -- ---- at first
@@ -72,6 +73,17 @@ abbrev pub PushesEnd : Type 0
 PushesEnd =
     (words : Words) (sizes : Sizes) (l : Layout) (e : Escapes) (g : Ways) (t : ℕ) (s : State) (env : Env) (c : Core) (f : Frame) (kept : List Operand) (rest : Tree)
     → Holds sizes l e g t s env c → stack_left c < 4 * frame_words f → Performs words sizes (IsOutOfStack sizes s c f) 1 4 (push_frame (g.begins f.back) (frame_words f) kept rest) c
+
+-- The data say nothing of frames.
+abbrev pub FramesKeepData : Type 0
+FramesKeepData =
+    (sizes : Sizes) (l : Layout) (e : Escapes) (s : State) (f : Frame) (storage : Regions Word) (next : ℕ) (output : List ℕ) → HoldsData sizes l e s storage next output → HoldsData sizes l e (with_frame s f) storage next output
+
+-- where a frame more is pushed by a step, the frames that were live are held by the raised stack
+abbrev pub RaisingKeepsFrames : Type 0
+RaisingKeepsFrames =
+    (sizes : Sizes) (l : Layout) (g : Ways) (s : State) (f : Frame) (k raised : Stack) (step : ℕ) → HoldsFrames sizes l g s k → IsRaised k raised (frame_words f)
+    → HoldsAll sizes l (pushed_at g (length s.frames) step) (with_frame s f) raised s.live
 
 -- ---- going to a block
 

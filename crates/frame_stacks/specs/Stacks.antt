@@ -89,3 +89,16 @@ pub record IsStored (k : Stack) (step place : ℕ) (x : Word) (stamp : Stamp) : 
   pub stamped : slice_get k.stamps place ≡ Some stamp
   pub pushed : k.top ≤ stack_address place
   pub marked : slice_get k.live ((stack_address place - k.top) / 4) ≡ Some (record { birth = step; written = true })
+
+-- ---- a frame more
+
+-- a frame that is pushed by a step
+abbrev pub pushed_at : Ways → ℕ → ℕ → Ways
+pushed_at g birth step = record g { born = λ b. if b == birth then step else g.born b }
+
+-- From its newest word on the first stack is as the second one is behind so many words.
+pub record IsRaised (k raised : Stack) (count : ℕ) : Type 0 where
+  pub top : raised.top + 4 * count ≡ k.top
+  pub reads : (place : ℕ) → k.top ≤ stack_address place → slice_get raised.words place ≡ slice_get k.words place
+  pub stamps : (place : ℕ) → k.top ≤ stack_address place → slice_get raised.stamps place ≡ slice_get k.stamps place
+  pub marks : (i : ℕ) → slice_get raised.live (count + i) ≡ slice_get k.live i

@@ -1,6 +1,6 @@
 //! Laws of live frames in the stack, in stamped runs.
 
-ghost use Rattle.frame_stacks.specs.Laws.{NoFramesAreHeld, FrameGetsArePerformed, PopsArePerformed, PushesEnd, JumpsArePerformed, ReturnsArePerformed};
+ghost use Rattle.frame_stacks.specs.Laws.{NoFramesAreHeld, FrameGetsArePerformed, PopsArePerformed, PushesEnd, FramesKeepData, RaisingKeepsFrames, JumpsArePerformed, ReturnsArePerformed};
 
 /// A stack in which nothing was pushed holds the frames of a state that has none.
 pub fn frames_begin()
@@ -28,4 +28,10 @@ pub fn frames_are_popped()
 /// The code that pushes a frame ends the run where the stack has no room for it, with what was asked and what was left.
 pub fn no_frame_is_pushed_without_room()
     ensures { PushesEnd }
+{}
+
+/// Where a frame is pushed, data and frames that were there are held as before.
+pub fn older_frames_stay()
+    ensures data_held { FramesKeepData }
+    ensures frames { RaisingKeepsFrames }
 {}
