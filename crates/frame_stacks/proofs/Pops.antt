@@ -160,6 +160,7 @@ module _ (sizes : Sizes) (l : Layout) (e : Escapes) (g : Ways) (t : ℕ) (s : St
 
   abbrev base : ℕ
   base = frames_place sizes s.frames older
+
   abbrev after : Core
   after = resetting d (stack_address base)
 

@@ -126,7 +126,7 @@ module _ (sizes : Sizes) (l : Layout) (g : Ways) (s : State) (f : Frame) (k rais
   frame_raised b births place x lt older h = record {
     back = word_raised b lt h.back;
     next = subst (λ n. IsStored raised (ways.born b) (place + 1) (Number (stack_address n)) (Some (born_first ways births))) (sym (place_stays births older))
-    (subst (λ n. IsStored raised (ways.born b) (place + 1) (Number (stack_address (frames_place sizes s.frames births))) (Some n)) (sym (first_stays births older)) (word_raised b lt h.next));
+        (subst (λ n. IsStored raised (ways.born b) (place + 1) (Number (stack_address (frames_place sizes s.frames births))) (Some n)) (sym (first_stays births older)) (word_raised b lt h.next));
     slots = λ slot v found. slot_raised b place x slot v lt (h.slots slot v found);
     headers = λ slot c found. word_raised b lt (h.headers slot c found);
     codes = λ slot c found. word_raised b lt (h.codes slot c found);
@@ -140,10 +140,13 @@ module _ (sizes : Sizes) (l : Layout) (g : Ways) (s : State) (f : Frame) (k rais
 
   frames_raised : (births : List ℕ) → AllByRecursion (λ y. y < length s.frames) births → HoldsAll sizes l g s k births → HoldsAll sizes l ways more raised births
   frames_raised [] lt h = tt
-  frames_raised (b ∷ births) lt h =
-      (h.0, get_more s.frames f b lt.0 ∙ h.1, h.2,
-      subst (λ place. HoldsFrame sizes l ways more raised b births place h.0) (sym (place_stays (b ∷ births) lt)) (frame_raised b births (frames_place sizes s.frames (b ∷ births)) h.0 lt.0 lt.1 h.3),
-      frames_raised births lt.1 h.4)
+  frames_raised (b ∷ births) lt h = (
+    h.0,
+    get_more s.frames f b lt.0 ∙ h.1,
+    h.2,
+    subst (λ place. HoldsFrame sizes l ways more raised b births place h.0) (sym (place_stays (b ∷ births) lt)) (frame_raised b births (frames_place sizes s.frames (b ∷ births)) h.0 lt.0 lt.1 h.3),
+    frames_raised births lt.1 h.4,
+  )
 
 live_below : (sizes : Sizes) (l : Layout) (g : Ways) (s : State) (k : Stack) (births : List ℕ) → HoldsAll sizes l g s k births → AllByRecursion (λ b. b < length s.frames) births
 live_below sizes l g s k [] h = tt
