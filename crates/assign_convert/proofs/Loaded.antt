@@ -2,7 +2,7 @@
 use Rattle.std.specs.Prelude.{IsSomeAnd, IsTrue, All, sum_by}
 use Rattle.std.specs.List.{AllByRecursion}
 use Rattle.std.specs.Option.{option_map, option_map_or}
-use Rattle.std.proofs.Common.{◌≡◌, ℕ, zero, suc, ◌+◌, ◌*◌, ◌≤◌, List, [], ◌∷◌, ◌++◌, map, Option, Some, None, Bool, true, false, ◌||◌, if◌then◌else◌, slice_get, refl, sym, ap, ◌∙◌, subst, arith}
+use Rattle.std.proofs.Common.{◌≡◌, ℕ, zero, suc, ◌+◌, ◌*◌, ◌≤◌, List, [], ◌∷◌, ◌++◌, length, map, Option, Some, None, Bool, true, false, ◌||◌, if◌then◌else◌, slice_get, refl, sym, ap, ◌∙◌, subst, arith}
 use Rattle.cps_ir.specs.declared.args.Arg.TheVariants as Argument
 use Rattle.cps_ir.specs.declared.terms.Cont.{Cont}
 use Rattle.cps_ir.specs.declared.terms.Cont.TheVariants as Continuation
@@ -13,7 +13,7 @@ use Rattle.cps_ir.specs.declared.terms.Cps.{Cps}
 use Rattle.cps_ir.specs.Terms.{args_of, cont_of}
 use Rattle.cps_ir.specs.Parts.{walked, root_lams, reached_lams, reached_terms, lam_binders, arg_variables, is_assigned, lambdas_of, own_binders, parts_of, depth_of}
 use Rattle.cps_ir.specs.Reaches.{is_in, labels_of}
-use Rattle.cps_ir.specs.Loads.{is_closed, term_count, term_room, lam_room, room_of, HasLoads, occurring, opened, one_if, label_weight, cont_param, escape_of, open_weight, params_weight, term_weight, sum_within, sum_at, term_load, lam_load, AssignsAlone}
+use Rattle.cps_ir.specs.Loads.{is_closed, part_count, term_room, lam_room, room_of, HasLoads, occurring, opened, one_if, label_weight, cont_param, escape_of, open_weight, params_weight, term_weight, sum_within, sum_at, term_load, lam_load, AssignsAlone}
 use Rattle.cps_ir.proofs.ProperLists.{each_more, each_of_all, each_of, each_of_two}
 use Rattle.cps_ir.proofs.Closed.{all_of_each}
 use Rattle.assign_convert.specs.AssignedCells.{celled}
@@ -177,8 +177,13 @@ module _ (a d : Cps) (terms : d.terms.items ≡ map (celled (is_assigned a)) a.t
   pub load_same : (t : ℕ) → Ruled a t → term_load after t ≡ term_load a t
   load_same t h = sum_at_same (term_weight after) (term_weight a) term_same t h
 
-  count_of_same : (t : ℕ) → Ruled a t → term_count after t ≡ term_count a t
-  count_of_same t h = sum_at_same (λ u. 1) (λ u. 1) (λ u k. refl) t h
+  -- a term and its LAMBDAs
+  parts_same : (t : Term) → 1 + length (lambdas_of after (celled g t)) ≡ 1 + length (lambdas_of a t)
+  parts_same t =
+      of_celled g (λ t u. 1 + length (lambdas_of after u) ≡ 1 + length (lambdas_of a t)) (λ t s. refl) (λ k x s e. refl) (λ param body value e. refl) (λ x value k. refl) t
+
+  count_of_same : (t : ℕ) → Ruled a t → part_count after t ≡ part_count a t
+  count_of_same t h = sum_at_same (λ u. 1 + length (lambdas_of after u)) (λ u. 1 + length (lambdas_of a u)) (λ u k. parts_same u) t h
 
   either_same : (t x y : ℕ) → x ≡ y → (if is_closed after t then 0 else x) ≡ (if is_closed a t then 0 else y)
   either_same t x y e = ap (λ c. if c then 0 else x) (closed_same a d terms t) ∙ ap (λ z. if is_closed a t then 0 else z) e
@@ -190,12 +195,12 @@ module _ (a d : Cps) (terms : d.terms.items ≡ map (celled (is_assigned a)) a.t
 
   term_room_same : (t : ℕ) → Ruled a t → term_room after t ≡ term_room a t
   term_room_same t h =
-      ap (λ c. if c then term_count after t * (term_load after t + 2) else 0) (closed_same a d terms t)
-      ∙ ap (λ n. if is_closed a t then n * (term_load after t + 2) else 0) (count_of_same t h) ∙ ap (λ n. if is_closed a t then term_count a t * (n + 2) else 0) (load_same t h)
+      ap (λ c. if c then part_count after t * (term_load after t + 2) else 0) (closed_same a d terms t)
+      ∙ ap (λ n. if is_closed a t then n * (term_load after t + 2) else 0) (count_of_same t h) ∙ ap (λ n. if is_closed a t then part_count a t * (n + 2) else 0) (load_same t h)
 
   lam_room_same : (lam : Lam) → LamRuled a lam → lam_room after lam ≡ lam_room a lam
   lam_room_same lam h =
-      ap (λ n. n * (lam_load after lam + 2)) (either_same lam.body _ _ (count_of_same lam.body h.body)) ∙ ap (λ n. (if is_closed a lam.body then 0 else term_count a lam.body) * (n + 2)) (lam_load_same lam h)
+      ap (λ n. (1 + n) * (lam_load after lam + 2)) (either_same lam.body _ _ (count_of_same lam.body h.body)) ∙ ap (λ n. (1 + (if is_closed a lam.body then 0 else part_count a lam.body)) * (n + 2)) (lam_load_same lam h)
 
   module _ (reached : AllByRecursion (Ruled a) (walked a)) (roots : AllByRecursion (LamRuled a) (root_lams a)) where
     pub room_same : room_of after ≡ room_of a

@@ -1,7 +1,7 @@
 -- What follows where the assigned variables of a program became cells, in one.
 use Rattle.std.specs.Prelude.{All, filter}
 use Rattle.std.specs.List.{AllByRecursion, filter_map, list_any, cons_option}
-use Rattle.std.proofs.Common.{◌≡◌, ℕ, zero, suc, ◌≤◌, Bool, true, false, ◌||◌, List, [], ◌∷◌, length, map, get_or, Option, Some, None, slice_get, refl, sym, ap, ◌∙◌, subst, arith}
+use Rattle.std.proofs.Common.{◌≡◌, ℕ, zero, suc, ◌+◌, ◌≤◌, Bool, true, false, ◌||◌, List, [], ◌∷◌, length, map, get_or, Option, Some, None, slice_get, refl, sym, ap, ◌∙◌, subst, arith}
 use Rattle.std.proofs.lemmas.List.Elements.{All-map}
 use Rattle.cps_ir.specs.declared.terms.Term.{Term}
 use Rattle.cps_ir.specs.declared.terms.Term.TheVariants as Node
@@ -132,7 +132,7 @@ module _ (a d : Cps) (terms : d.terms.items ≡ map (celled (is_assigned a)) a.t
       let after = sum_tot args_count d.terms.items in
       let same = ap (tot args_count) terms in
       let fewer = all_fewer (is_assigned a) a.terms.items in
-      record { terms = count_same a d terms; args = omega (arith, counts, after, same, fewer); room = room_same a d terms reached roots }
+      record { terms = ap (λ n. n + length a.lams.items) (count_same a d terms); args = omega (arith, counts, after, same, fewer); room = room_same a d terms reached roots }
 
   all_terms : (P Q : Term → Type 0) → ((t : Term) → P t → Q (celled (is_assigned a) t)) → All P a.terms.items → All Q d.terms.items
   all_terms P Q turn h = subst (All Q) (sym terms) (All-map Q (celled (is_assigned a)) a.terms.items (λ k e lt. turn _ (h k e lt)))

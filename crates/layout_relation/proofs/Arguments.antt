@@ -14,8 +14,6 @@ use Rattle.cps_ir.specs.Reaches.{is_in}
 use Rattle.cps_ir.specs.States.{Meant, Direct, Scope, Closure, Program, marked, all_escape, State}
 use Rattle.cps_ir.specs.Giving.{lam_words, or_unbound, value_of as meant_value, with_arg, with_args, closing}
 use Rattle.cps_ir.specs.Running.{closures_of}
-use Rattle.frame_ir.specs.declared.args.Arg.{Arg as FrameArg}
-use Rattle.frame_ir.specs.declared.args.Arg.TheVariants as FrameArgument
 use Rattle.frame_ir.specs.declared.forms.Place.TheVariants as At
 use Rattle.frame_ir.specs.declared.forms.FrameOp.{FrameOp}
 use Rattle.frame_ir.specs.declared.forms.FrameOp.TheVariants as Op
@@ -62,7 +60,7 @@ module _ (cps : Cps) (w : Sketch) (small : (l : ℕ) → length (w.needs l) ≤ 
   -- ---- closures for arguments
 
   -- what is held is no variable that is made
-  made_apart : (args : List Arg) (ops : List FrameOp) (bs : List FrameArg) (x y : ℕ) → Prepares cps w vars args ops bs → IsIn (x, y) vars → is_in (made_by ops) y ≡ false
+  made_apart : (args : List Arg) (ops : List FrameOp) (bs : List Arg) (x y : ℕ) → Prepares cps w vars args ops bs → IsIn (x, y) vars → is_in (made_by ops) y ≡ false
   made_apart args ops bs x y prepares_none i = refl
   made_apart args ops bs x y (prepares_same a b as_ ms cs h rest) i = made_apart as_ ms cs x y rest i
   made_apart args ops bs x y (prepares_closure l to code kept as_ ms cs h u rest) i =
@@ -75,14 +73,14 @@ module _ (cps : Cps) (w : Sketch) (small : (l : ℕ) → length (w.needs l) ≤ 
   HasProcedures s = (g code : ℕ) → code_of_global cps.shared g ≡ Some code → (slice_get s.globals g ≡ Some (Some (ClosureV code))) × IsTied links.closures code code
 
   -- an argument that makes nothing
-  pub record Argued (s : State) (env : Env) (a : Arg) (b : FrameArg) : Type 0 where
+  pub record Argued (s : State) (env : Env) (a : Arg) (b : Arg) : Type 0 where
     pub left : Val
     pub right : Val
     pub gives : (rest : State → Val → State) → with_arg P scope a s rest ≡ rest s left
     pub reads : lasting_value cps.shared env b ≡ Some right
     pub same : SameVal links left right
 
-  argued : (s : State) (env : Env) (a : Arg) (b : FrameArg) → HasProcedures s → HoldAll w links scope env vars → SameArg cps w vars a b → Argued s env a b
+  argued : (s : State) (env : Env) (a : Arg) (b : Arg) → HasProcedures s → HoldAll w links scope env vars → SameArg cps w vars a b → Argued s env a b
   argued s env a b procs h (same_const k) = record { left = val_of k; right = val_of k; gives = λ rest. refl; reads = refl; same = const_same links k }
   argued s env a b procs h (same_var x y i plain) =
       let k = h x.0 y.0 i in
@@ -110,7 +108,7 @@ module _ (cps : Cps) (w : Sketch) (small : (l : ℕ) → length (w.needs l) ≤ 
   abbrev pub TiedFrom : Links → ℕ → ℕ → ℕ → Type 0
   TiedFrom new i j n = (k : ℕ) → k < n → IsTied new.closures (i + k) (j + k)
 
-  pub record Arguments (s : State) (n birth : ℕ) (env : Env) (args : List Arg) (ops : List FrameOp) (bs : List FrameArg) : Type 0 where
+  pub record Arguments (s : State) (n birth : ℕ) (env : Env) (args : List Arg) (ops : List FrameOp) (bs : List Arg) : Type 0 where
     pub lams : List ℕ
     pub tos : List Var
     pub makes : Makes cps w vars lams ops tos
@@ -124,14 +122,14 @@ module _ (cps : Cps) (w : Sketch) (small : (l : ℕ) → length (w.needs l) ≤ 
     pub same : (new : Links) → Extends links new → TiedFrom new (length s.closures) n (length lams) → Zipped (SameVal new) lefts rights
     pub held : HoldAll w links scope (with_addresses n birth (makings ops) env) vars
 
-  both_read : (env : Env) (b : FrameArg) (bs : List FrameArg) (v : Val) (vs : List Val) → lasting_value cps.shared env b ≡ Some v → lasting_values cps.shared env bs ≡ Some vs → lasting_values cps.shared env (b ∷ bs) ≡ Some (v ∷ vs)
+  both_read : (env : Env) (b : Arg) (bs : List Arg) (v : Val) (vs : List Val) → lasting_value cps.shared env b ≡ Some v → lasting_values cps.shared env bs ≡ Some vs → lasting_values cps.shared env (b ∷ bs) ≡ Some (v ∷ vs)
   both_read env b bs v vs e f = ap (λ o. option_and_then (λ y. option_map (λ ys. y ∷ ys) (lasting_values cps.shared env bs)) o) e ∙ ap (option_map (λ ys. v ∷ ys)) f
 
   one_longer : {X : Type 0} (xs : List X) (x : X) → length (xs ++ x ∷ []) ≡ suc (length xs)
   one_longer [] x = refl
   one_longer (y ∷ xs) x = ap suc (one_longer xs x)
 
-  plain_argument : (s : State) (n birth : ℕ) (env : Env) (a : Arg) (b : FrameArg) (args : List Arg) (ops : List FrameOp) (bs : List FrameArg) → ((final : Env) → HoldAll w links scope final vars → Argued s final a b) → Arguments s n birth env args ops bs
+  plain_argument : (s : State) (n birth : ℕ) (env : Env) (a : Arg) (b : Arg) (args : List Arg) (ops : List FrameOp) (bs : List Arg) → ((final : Env) → HoldAll w links scope final vars → Argued s final a b) → Arguments s n birth env args ops bs
       → Arguments s n birth env (a ∷ args) ops (b ∷ bs)
   plain_argument s n birth env a b args ops bs one more =
       let final = with_addresses n birth (makings ops) env in
@@ -161,9 +159,9 @@ module _ (cps : Cps) (w : Sketch) (small : (l : ℕ) → length (w.needs l) ≤ 
         moves = c.moves;
       }
 
-  closure_argument : (s : State) (n birth : ℕ) (env : Env) (l : ℕ) (to : Var) (code : ℕ) (kept : List Var) (args : List Arg) (ops : List FrameOp) (bs : List FrameArg) → MakesClosure cps w vars l to code kept ops
+  closure_argument : (s : State) (n birth : ℕ) (env : Env) (l : ℕ) (to : Var) (code : ℕ) (kept : List Var) (args : List Arg) (ops : List FrameOp) (bs : List Arg) → MakesClosure cps w vars l to code kept ops
       → Arguments (closing P l scope s) (n + 1) birth ((to.0, Lasting (ClosureV n)) ∷ env) args ops bs
-      → Arguments s n birth env (Argument.Proc l ∷ args) (Op.Closure to code kept At.Heap ∷ ops) (FrameArgument.Var to ∷ bs)
+      → Arguments s n birth env (Argument.Proc l ∷ args) (Op.Closure to code kept At.Heap ∷ ops) (Argument.Var to ∷ bs)
   closure_argument s n birth env l to code kept args ops bs h more =
       let c : Closure = record { lam = l; scope = scope } in
       let longer : length (s.closures ++ c ∷ []) ≡ suc (length s.closures) = one_longer s.closures c in
@@ -177,7 +175,7 @@ module _ (cps : Cps) (w : Sketch) (small : (l : ℕ) → length (w.needs l) ≤ 
         rights = ClosureV n ∷ more.rights;
         gives = λ rest. more.gives (λ u vs. rest u (ClosureV (length s.closures) ∷ vs));
         closes = subst (λ k. Closes s more.state (c ∷ closures_of more.lams scope) k) (sym (sum_by-cons (lam_words P) l more.lams)) (closed_front s more.state l (closures_of more.lams scope) (sum_by (lam_words P) more.lams) more.closes);
-        reads = both_read (with_addresses (n + 1) birth (makings ops) ((to.0, Lasting (ClosureV n)) ∷ env)) (FrameArgument.Var to) bs (ClosureV n) more.rights
+        reads = both_read (with_addresses (n + 1) birth (makings ops) ((to.0, Lasting (ClosureV n)) ∷ env)) (Argument.Var to) bs (ClosureV n) more.rights
             (ap (λ o. option_and_then lasting_of o) (address_first cps w small vars l to code kept more.lams ops more.tos n birth env h more.makes))
             more.reads;
         same = λ new ext tied. zip_one (ClosureV (length s.closures)) (ClosureV n) more.lefts more.rights
@@ -187,7 +185,7 @@ module _ (cps : Cps) (w : Sketch) (small : (l : ℕ) → length (w.needs l) ≤ 
         held = more.held;
       }
 
-  pub arguments : (s : State) (n birth : ℕ) (env : Env) (args : List Arg) (ops : List FrameOp) (bs : List FrameArg) → HasProcedures s → HoldAll w links scope env vars → Prepares cps w vars args ops bs → Arguments s n birth env args ops bs
+  pub arguments : (s : State) (n birth : ℕ) (env : Env) (args : List Arg) (ops : List FrameOp) (bs : List Arg) → HasProcedures s → HoldAll w links scope env vars → Prepares cps w vars args ops bs → Arguments s n birth env args ops bs
   arguments s n birth env args ops bs procs h prepares_none = record {
     lams = [];
     tos = [];

@@ -7,7 +7,7 @@ use Rattle.t_base.specs.declared.basics.Var.{Var}
 use Rattle.t_prim.specs.Values.{Val, ClosureV, ObjectV}
 use Rattle.cps_ir.specs.declared.terms.Cps.{Cps}
 use Rattle.cps_ir.specs.States.{Scope, At, State}
-use Rattle.frame_ir.specs.declared.args.Arg.{Arg as FrameArg}
+use Rattle.cps_ir.specs.declared.args.Arg.{Arg as FrameArg}
 use Rattle.frame_ir.specs.declared.forms.FrameOp.{FrameOp}
 use Rattle.frame_ir.specs.declared.forms.FrameOp.TheVariants as Op
 use Rattle.frame_ir.specs.declared.forms.FrameEnd.{FrameEnd}

@@ -9,7 +9,7 @@ use Rattle.cps_ir.specs.declared.terms.Cont.{Cont}
 use Rattle.cps_ir.specs.declared.terms.Cps.{Cps}
 use Rattle.cps_ir.specs.States.{Scope, State, Program, marked, all_escape, faulted as faulted_to}
 use Rattle.cps_ir.specs.Giving.{give}
-use Rattle.frame_ir.specs.declared.args.Arg.TheVariants as FrameArgument
+use Rattle.cps_ir.specs.declared.args.Arg.TheVariants as FrameArgument
 use Rattle.frame_ir.specs.declared.forms.FrameOp.{FrameOp}
 use Rattle.frame_ir.specs.declared.forms.FrameEnd.{FrameEnd}
 use Rattle.frame_ir.specs.declared.forms.Frames.{Frames}

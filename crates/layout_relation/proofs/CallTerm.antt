@@ -10,7 +10,6 @@ use Rattle.cps_ir.specs.declared.terms.Cps.{Cps}
 use Rattle.cps_ir.specs.States.{Scope, State, Program, marked, all_escape, Calling, going as going_to, with_waiting, Back, Pending}
 use Rattle.cps_ir.specs.Giving.{On, way, pushing}
 use Rattle.cps_ir.specs.Running.{performed}
-use Rattle.frame_ir.specs.declared.args.Arg.{Arg as FrameArg}
 use Rattle.frame_ir.specs.declared.forms.FrameOp.{FrameOp}
 use Rattle.frame_ir.specs.declared.forms.FrameOp.TheVariants as Op
 use Rattle.frame_ir.specs.declared.forms.FrameEnd.{FrameEnd}
@@ -43,14 +42,14 @@ module _ (cps : Cps) (p : Frames) (laid : IsLaidOut cps p) (Low : ℕ → ℕ �
   P = marked cps all_escape
 
   -- the call itself
-  call_step : (g : FrameArg) (bs : List FrameArg) (env : Env) (u : FrameState) (r : Val) (rs : List Val) → lasting_value p.shared env g ≡ Some r → lasting_values p.shared env bs ≡ Some rs
+  call_step : (g : Arg) (bs : List Arg) (env : Env) (u : FrameState) (r : Val) (rs : List Val) → lasting_value p.shared env g ≡ Some r → lasting_values p.shared env bs ≡ Some rs
       → step p (going (Running [] (Last.Call g bs) env) u) ≡ going (CallingAt (Lasting r) rs) (counted (1 + length bs) u)
   call_step g bs env u r rs e f =
       let at = going (Running [] (Last.Call g bs) env) u in
       ap (λ o. or_wrong o at (λ g. or_wrong (lasting_values p.shared env bs) at (λ vs. going (CallingAt g vs) (counted (1 + length bs) at)))) (lasting_is (value_of p.shared env g) r e)
       ∙ ap (λ o. or_wrong o at (λ vs. going (CallingAt (Lasting r) vs) (counted (1 + length bs) at))) f
 
-  called_reaches : (links : Links) (s : State) (u : FrameState) (g : FrameArg) (bs : List FrameArg) (env : Env) (v r : Val) (vs rs : List Val) (top : ℕ) → lasting_value p.shared env g ≡ Some r → lasting_values p.shared env bs ≡ Some rs → SameVal links v r → Zipped (SameVal links) vs rs
+  called_reaches : (links : Links) (s : State) (u : FrameState) (g : Arg) (bs : List Arg) (env : Env) (v r : Val) (vs rs : List Val) (top : ℕ) → lasting_value p.shared env g ≡ Some r → lasting_values p.shared env bs ≡ Some rs → SameVal links v r → Zipped (SameVal links) vs rs
       → SameMade cps w links s u → Waits w links u.frames [] s.waiting u.live → Low u.store.heap (length u.live) → Reaches cps p w Low (going_to (Calling v vs) s) (going (Running [] (Last.Call g bs) env) u) (1 + length bs + 0) top
   called_reaches links s u g bs env v r vs rs top e f same sames made waits low =
       let at = going (Running [] (Last.Call g bs) env) u in
@@ -61,7 +60,7 @@ module _ (cps : Cps) (p : Frames) (laid : IsLaidOut cps p) (Low : ℕ → ℕ �
         related = record { links = links; made = remade cps w links s (going_to (Calling v vs) s) u end made refl refl; doing = same_call v r vs rs same sames waits };
       })
 
-  pub tail_reaches : (c : Context) (t : ℕ) (scope : Scope) (env : Env) (s : State) (u : FrameState) (f : Arg) (args : List Arg) (k : Var) (ms : List FrameOp) (b : FrameArg) (bs : List FrameArg) → Prepares cps w c.vars (f ∷ args) ms (b ∷ bs)
+  pub tail_reaches : (c : Context) (t : ℕ) (scope : Scope) (env : Env) (s : State) (u : FrameState) (f : Arg) (args : List Arg) (k : Var) (ms : List FrameOp) (b : Arg) (bs : List Arg) → Prepares cps w c.vars (f ∷ args) ms (b ∷ bs)
       → exit_of c.exits k.0 ≡ Leaves → c.catches ≡ [] → Staged cps p w Low c scope env s (performed P scope (Node.Call f args (Continuation.Var k)) s) u
       → Reaches cps p w Low (performed P scope (Node.Call f args (Continuation.Var k)) s) (going (Running ms (Last.Call b bs) env) u) ((1 + length args) * (1 + cps.shared.size) + (1 + length bs + 0)) (w.rank t)
   tail_reaches c t scope env s u f args k ms b bs d out none g =
@@ -105,7 +104,7 @@ module _ (cps : Cps) (p : Frames) (laid : IsLaidOut cps p) (Low : ℕ → ℕ �
       let at = going (Running (Op.Push kept back ∷ []) last env) u in
       ap (λ o. or_wrong o at (λ vs. going (Running [] last env) (counted (1 + length kept) (with_frame at (pushed_frame back (slots_of [] (length kept)) vs))))) e
 
-  pub call_reaches : (c : Context) (t : ℕ) (scope : Scope) (env : Env) (s : State) (u : FrameState) (f : Arg) (args : List Arg) (k : Cont) (ms : List FrameOp) (b : FrameArg) (bs : List FrameArg) (r : Return) (kept : List Var) (back : ℕ) → Prepares cps w c.vars (f ∷ args) ms (b ∷ bs)
+  pub call_reaches : (c : Context) (t : ℕ) (scope : Scope) (env : Env) (s : State) (u : FrameState) (f : Arg) (args : List Arg) (k : Cont) (ms : List FrameOp) (b : Arg) (bs : List Arg) (r : Return) (kept : List Var) (back : ℕ) → Prepares cps w c.vars (f ∷ args) ms (b ∷ bs)
       → Awaits c k r → IsFor w back (Resumes r) → AreHeld c.vars r.kept kept → Staged cps p w Low c scope env s (performed P scope (Node.Call f args k) s) u
       → Reaches cps p w Low (performed P scope (Node.Call f args k) s) (going (Running (ms ++ Op.Push kept back ∷ []) (Last.Call b bs) env) u) ((1 + length args) * (1 + cps.shared.size) + ((1 + length kept) + (1 + length bs + 0))) (w.rank t)
   call_reaches c t scope env s u f args k ms b bs r kept back d awaits for held g =

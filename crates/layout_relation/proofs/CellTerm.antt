@@ -10,8 +10,7 @@ use Rattle.cps_ir.specs.declared.terms.Cps.{Cps}
 use Rattle.cps_ir.specs.States.{Scope, State, Program, marked, all_escape, At, going as going_to, Meant, InLocation, Bound, taking as taking_to, with_location, with_location_at}
 use Rattle.cps_ir.specs.Giving.{value_of as meant_value, location_of, located, with_place, or_unbound, way, give}
 use Rattle.cps_ir.specs.Running.{performed}
-use Rattle.frame_ir.specs.declared.args.Arg.{Arg as FrameArg}
-use Rattle.frame_ir.specs.declared.args.Arg.TheVariants as FrameArgument
+use Rattle.cps_ir.specs.declared.args.Arg.TheVariants as FrameArgument
 use Rattle.frame_ir.specs.declared.forms.FrameOp.{FrameOp}
 use Rattle.frame_ir.specs.declared.forms.FrameOp.TheVariants as Op
 use Rattle.frame_ir.specs.declared.forms.FrameEnd.{FrameEnd}
@@ -104,7 +103,7 @@ module _ (cps : Cps) (p : Frames) (laid : IsLaidOut cps p) (Low : ℕ → ℕ �
         escapes = made.escapes;
       }
 
-  pub cell_reaches : (c : Context) (t : ℕ) (scope : Scope) (env : Env) (s : State) (u : FrameState) (x : Var) (value : Arg) (rest : ℕ) (ms : List FrameOp) (b : FrameArg) (to : Var) (ops : List FrameOp) (last : FrameEnd) → Prepares cps w c.vars (value ∷ []) ms (b ∷ [])
+  pub cell_reaches : (c : Context) (t : ℕ) (scope : Scope) (env : Env) (s : State) (u : FrameState) (x : Var) (value : Arg) (rest : ℕ) (ms : List FrameOp) (b : Arg) (to : Var) (ops : List FrameOp) (last : FrameEnd) → Prepares cps w c.vars (value ∷ []) ms (b ∷ [])
       → IsFresh c x.0 → w.celled x.0 ≡ true → IsUnused c.vars to.0 → GoesOn cps w (with_var x.0 to.0 c) rest ops last → Staged cps p w Low c scope env s (performed P scope (Node.Cell x value rest) s) u
       → Reaches cps p w Low (performed P scope (Node.Cell x value rest) s) (going (Running (ms ++ Op.Cell to b ∷ ops) last env) u) (1 * (1 + cps.shared.size) + (2 + (cps.shared.size + 4))) (w.rank t)
   cell_reaches c t scope env s u x value rest ms b to ops last d fresh celled unused onward st =
@@ -179,7 +178,7 @@ module _ (cps : Cps) (p : Frames) (laid : IsLaidOut cps p) (Low : ℕ → ℕ �
       set_count (a ∷ xs) zero x = refl
       set_count (a ∷ xs) (suc i) x = ap suc (set_count xs i x)
 
-  pub cell_set_reaches : (c : Context) (t : ℕ) (scope : Scope) (env : Env) (s : State) (u : FrameState) (x y : Var) (value : Arg) (k : Cont) (ms : List FrameOp) (b : FrameArg) (ops : List FrameOp) (last : FrameEnd) → Prepares cps w c.vars (value ∷ []) ms (b ∷ [])
+  pub cell_set_reaches : (c : Context) (t : ℕ) (scope : Scope) (env : Env) (s : State) (u : FrameState) (x y : Var) (value : Arg) (k : Cont) (ms : List FrameOp) (b : Arg) (ops : List FrameOp) (last : FrameEnd) → Prepares cps w c.vars (value ∷ []) ms (b ∷ [])
       → IsIn (x.0, y.0) c.vars → w.celled x.0 ≡ true → Gives cps w c t k b ops last → Staged cps p w Low c scope env s (performed P scope (Node.CellSet x value k) s) u
       → Reaches cps p w Low (performed P scope (Node.CellSet x value k) s) (going (Running (ms ++ Op.CellSet y b ∷ ops) last env) u) (1 * (1 + cps.shared.size) + (3 + give_moves cps p laid Low)) (w.rank t)
   cell_set_reaches c t scope env s u x y value k ms b ops last d there celled onward st =

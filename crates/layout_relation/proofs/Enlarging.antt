@@ -5,7 +5,6 @@ use Rattle.cps_ir.specs.declared.args.Arg.{Arg}
 use Rattle.cps_ir.specs.declared.terms.Cont.{Cont}
 use Rattle.cps_ir.specs.declared.terms.Term.{Term}
 use Rattle.cps_ir.specs.declared.terms.Cps.{Cps}
-use Rattle.frame_ir.specs.declared.args.Arg.{Arg as FrameArg}
 use Rattle.frame_ir.specs.declared.forms.FrameOp.{FrameOp}
 use Rattle.frame_ir.specs.declared.forms.FrameEnd.{FrameEnd}
 use Rattle.frame_ir.specs.declared.forms.Block.{Block}
@@ -32,14 +31,14 @@ module _ (cps : Cps) (w : Sketch) (purposes : List Purpose) (templates : List Te
   closure_stays : (vars : List (ℕ × ℕ)) (l : ℕ) (to : Var) (code : ℕ) (kept : List Var) (ms : List FrameOp) → MakesClosure cps w vars l to code kept ms → MakesClosure cps v vars l to code kept ms
   closure_stays vars l to code kept ms h = record { lambda = h.lambda; runs = still_for code (CodeOf l) h.runs; holds = h.holds; later = h.later }
 
-  arg_stays : (vars : List (ℕ × ℕ)) (a : Arg) (b : FrameArg) → SameArg cps w vars a b → SameArg cps v vars a b
+  arg_stays : (vars : List (ℕ × ℕ)) (a : Arg) (b : Arg) → SameArg cps w vars a b → SameArg cps v vars a b
   arg_stays vars a b (same_const k) = same_const k
   arg_stays vars a b (same_var x y i plain) = same_var x y i plain
   arg_stays vars a b (same_global g code e) = same_global g code e
   arg_stays vars a b (same_builtin p) = same_builtin p
   arg_stays vars a b (same_op o) = same_op o
 
-  prepares_stays : (vars : List (ℕ × ℕ)) (args : List Arg) (ms : List FrameOp) (bs : List FrameArg) → Prepares cps w vars args ms bs → Prepares cps v vars args ms bs
+  prepares_stays : (vars : List (ℕ × ℕ)) (args : List Arg) (ms : List FrameOp) (bs : List Arg) → Prepares cps w vars args ms bs → Prepares cps v vars args ms bs
   prepares_stays vars args ms bs prepares_none = prepares_none
   prepares_stays vars args ms bs (prepares_same a b as_ ns cs h rest) = prepares_same a b as_ ns cs (arg_stays vars a b h) (prepares_stays vars as_ ns cs rest)
   prepares_stays vars args ms bs (prepares_closure l to code kept as_ ns cs h u rest) = prepares_closure l to code kept as_ ns cs (closure_stays vars l to code kept ns h) u (prepares_stays vars as_ ns cs rest)
@@ -52,7 +51,7 @@ module _ (cps : Cps) (w : Sketch) (purposes : List Purpose) (templates : List Te
   methods_stay needs xs ys h = zipped_more (IsMethod w needs) (IsMethod v needs) (λ x y k. record { op = k.op; runs = still_for y.1 (MethodOf x.1 needs) k.runs }) xs ys h
 
   mutual
-    pub gives_stay : (c : Context) (t : ℕ) (k : Cont) (a : FrameArg) (ops : List FrameOp) (last : FrameEnd) → Gives cps w c t k a ops last → Gives cps v c t k a ops last
+    pub gives_stay : (c : Context) (t : ℕ) (k : Cont) (a : Arg) (ops : List FrameOp) (last : FrameEnd) → Gives cps w c t k a ops last → Gives cps v c t k a ops last
     gives_stay c t k a ops last (gives_out c2 t2 j a2 out none) = gives_out c2 t2 j a2 out none
     gives_stay c t k a ops last (gives_join c2 t2 j a2 m rest ys meets for held new few) = gives_join c2 t2 j a2 m rest ys meets (still_for _ _ for) held (new_in m.needs rest m.param new) few
     gives_stay c t k a ops last (gives_jump c2 t2 param body a2 block needs ys for held new few) = gives_jump c2 t2 param body a2 block needs ys (still_for _ _ for) held (new_in needs c2.exits param.0 new) few

@@ -10,7 +10,6 @@ use Rattle.cps_ir.specs.declared.terms.Cps.{Cps}
 use Rattle.cps_ir.specs.Parts.{is_assigned, walked_within}
 use Rattle.cps_ir.specs.Writing.{var, fix as given_fix, local, to, into, lam}
 use Rattle.cps_ir.specs.Examples.{catch_over_two}
-use Rattle.frame_ir.specs.declared.args.Arg.TheVariants as Argument
 use Rattle.frame_ir.specs.declared.forms.FrameOp.TheVariants as Op
 use Rattle.frame_ir.specs.declared.forms.FrameEnd.TheVariants as Last
 use Rattle.frame_ir.specs.declared.forms.Frames.{Frames}
@@ -119,14 +118,14 @@ module _ (alloc : Global) where
         (refl, tt) (gives_out (context ((2, 3) ∷ []) (OwnExit 1)) 0 (var 1) (of 4) refl refl)));
   }
 
-  starts : BlockFits cps sketch (Begins at_start) (block alloc [] (Op.Push [] 4 ∷ Op.CatchOpen (var 5) 4 ∷ Op.Push [] 5 ∷ []) (Last.Call (Argument.Global 0) (of 5 ∷ [])) refl)
+  starts : BlockFits cps sketch (Begins at_start) (block alloc [] (Op.Push [] 4 ∷ Op.CatchOpen (var 5) 4 ∷ Op.Push [] 5 ∷ []) (Last.Call (Given.Global 0) (of 5 ∷ [])) refl)
   starts = record {
     count = refl;
     distinct = tt;
     lays = lays _ 7 _ _ _ refl (lays_join (context [] NoExit) 7 (var 3) (var 4) 2 6 6 [] _ _ (omega arith)
         (lays _ 6 _ _ _ refl (lays_catch (context [] joined) 6 (var 5) 5 (to 3) behind_catch [] (var 5) 4 _ _ (awaits_join (var 3) meeting NoExit refl) refl zip_none tt (tt, (refl, tt)) refl tt
-        (goes_here _ 5 _ _ (lays _ 5 _ _ _ refl (lays_call (within ((5, 5) ∷ [])) 5 (Given.Global 0) (local 5 ∷ []) (into 6 4) [] (Argument.Global 0) (of 5 ∷ []) behind_f [] 5
-        (prepares_same (Given.Global 0) (Argument.Global 0) _ [] _ (same_global 0 0 refl) (prepares_same (local 5) (of 5) [] [] [] (same_var (var 5) (var 5) (first (5, 5) []) refl) prepares_none))
+        (goes_here _ 5 _ _ (lays _ 5 _ _ _ refl (lays_call (within ((5, 5) ∷ [])) 5 (Given.Global 0) (local 5 ∷ []) (into 6 4) [] (Given.Global 0) (of 5 ∷ []) behind_f [] 5
+        (prepares_same (Given.Global 0) (Given.Global 0) _ [] _ (same_global 0 0 refl) (prepares_same (local 5) (of 5) [] [] [] (same_var (var 5) (var 5) (first (5, 5) []) refl) prepares_none))
         (awaits_lam (var 6) 4 []) refl zip_none tt))))));
   }
 

@@ -8,7 +8,6 @@ use Rattle.cps_ir.specs.declared.terms.Cps.{Cps}
 use Rattle.cps_ir.specs.States.{Scope, State, Program, marked, all_escape}
 use Rattle.cps_ir.specs.Giving.{way, give}
 use Rattle.cps_ir.specs.Running.{performed}
-use Rattle.frame_ir.specs.declared.args.Arg.{Arg as FrameArg}
 use Rattle.frame_ir.specs.declared.forms.FrameOp.{FrameOp}
 use Rattle.frame_ir.specs.declared.forms.FrameEnd.{FrameEnd}
 use Rattle.frame_ir.specs.declared.forms.Frames.{Frames}
@@ -29,7 +28,7 @@ module _ (cps : Cps) (p : Frames) (laid : IsLaidOut cps p) (Low : ℕ → ℕ �
   abbrev P : Program
   P = marked cps all_escape
 
-  pub give_reaches : (c : Context) (t : ℕ) (scope : Scope) (env : Env) (s : State) (u : FrameState) (k : Cont) (value : Arg) (ms : List FrameOp) (b : FrameArg) (ops : List FrameOp) (last : FrameEnd) → Prepares cps w c.vars (value ∷ []) ms (b ∷ []) → StartsApart ops → Gives cps w c t k b ops last
+  pub give_reaches : (c : Context) (t : ℕ) (scope : Scope) (env : Env) (s : State) (u : FrameState) (k : Cont) (value : Arg) (ms : List FrameOp) (b : Arg) (ops : List FrameOp) (last : FrameEnd) → Prepares cps w c.vars (value ∷ []) ms (b ∷ []) → StartsApart ops → Gives cps w c t k b ops last
       → Staged cps p w Low c scope env s (performed P scope (Node.Give k value) s) u
       → Reaches cps p w Low (performed P scope (Node.Give k value) s) (going (Running (ms ++ ops) last env) u) (1 * (1 + cps.shared.size) + give_moves cps p laid Low) (w.rank t)
   give_reaches c t scope env s u k value ms b ops last d apart gives g =

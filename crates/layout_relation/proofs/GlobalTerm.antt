@@ -10,8 +10,7 @@ use Rattle.cps_ir.specs.declared.terms.Cps.{Cps}
 use Rattle.cps_ir.specs.States.{Scope, State, Program, marked, all_escape, with_global_at as with_global_to}
 use Rattle.cps_ir.specs.Giving.{or_unbound, with_global, way, give}
 use Rattle.cps_ir.specs.Running.{performed}
-use Rattle.frame_ir.specs.declared.args.Arg.{Arg as FrameArg}
-use Rattle.frame_ir.specs.declared.args.Arg.TheVariants as FrameArgument
+use Rattle.cps_ir.specs.declared.args.Arg.TheVariants as FrameArgument
 use Rattle.frame_ir.specs.declared.forms.FrameOp.{FrameOp}
 use Rattle.frame_ir.specs.declared.forms.FrameOp.TheVariants as Op
 use Rattle.frame_ir.specs.declared.forms.FrameEnd.{FrameEnd}
@@ -116,7 +115,7 @@ module _ (cps : Cps) (p : Frames) (laid : IsLaidOut cps p) (Low : ℕ → ℕ �
 
   -- ---- a value is put
 
-  put_reaches : (links : Links) (c : Context) (t : ℕ) (scope : Scope) (env : Env) (s : State) (at u : FrameState) (k : Cont) (b : FrameArg) (v r : Val) (ops : List FrameOp) (last : FrameEnd) (g : ℕ) → code_of_global cps.shared g ≡ None → lasting_value p.shared env b ≡ Some r → SameVal links v r
+  put_reaches : (links : Links) (c : Context) (t : ℕ) (scope : Scope) (env : Env) (s : State) (at u : FrameState) (k : Cont) (b : Arg) (v r : Val) (ops : List FrameOp) (last : FrameEnd) (g : ℕ) → code_of_global cps.shared g ≡ None → lasting_value p.shared env b ≡ Some r → SameVal links v r
       → Gives cps w c t k b ops last → SameMade cps w links s u → HoldAll w links scope env c.vars → Leads scope c.exits → Waits w links u.frames c.catches s.waiting u.live → LowBelow cps p laid Low u → step p at ≡ going (Running ops last env) (counted 2 (with_global_at u g r)) → u.moves ≤ at.moves
       → Reaches cps p w Low (give P scope k v (with_global_to s g v)) at (2 + give_moves cps p laid Low) (w.rank t)
   put_reaches links c t scope env s at u k b v r ops last g none reads same onward made held leads waits low one few =
@@ -124,7 +123,7 @@ module _ (cps : Cps) (p : Frames) (laid : IsLaidOut cps p) (Low : ℕ → ℕ �
       let arrives = gives_arrives cps p laid Low links (with_global_to s g v) u2 c t k scope b v r ops last env onward reads same held leads waits (put_made links s u g v r none same made) low in
       reaches_after cps p w Low (give P scope k v (with_global_to s g v)) at (going (Running ops last env) u2) 2 (give_moves cps p laid Low) (w.rank t) (steps p Low at (going (Running ops last env) u2) 2 one (omega (arith, few)) (low (length u.live) (omega arith))) arrives
 
-  pub init_reaches : (c : Context) (t g : ℕ) (scope : Scope) (env : Env) (s : State) (u : FrameState) (value : Arg) (k : Cont) (ms : List FrameOp) (b : FrameArg) (ops : List FrameOp) (last : FrameEnd) → g < length cps.shared.globals.items → code_of_global cps.shared g ≡ None
+  pub init_reaches : (c : Context) (t g : ℕ) (scope : Scope) (env : Env) (s : State) (u : FrameState) (value : Arg) (k : Cont) (ms : List FrameOp) (b : Arg) (ops : List FrameOp) (last : FrameEnd) → g < length cps.shared.globals.items → code_of_global cps.shared g ≡ None
       → Prepares cps w c.vars (value ∷ []) ms (b ∷ []) → Gives cps w c t k b ops last → Staged cps p w Low c scope env s (performed P scope (Node.GlobalInit g value k) s) u
       → Reaches cps p w Low (performed P scope (Node.GlobalInit g value k) s) (going (Running (ms ++ Op.GlobalPut g b true ∷ ops) last env) u) (1 * (1 + cps.shared.size) + (2 + give_moves cps p laid Low)) (w.rank t)
   init_reaches c t g scope env s u value k ms b ops last lt none d onward st =
@@ -147,7 +146,7 @@ module _ (cps : Cps) (p : Frames) (laid : IsLaidOut cps p) (Low : ℕ → ℕ �
       (put_reaches x.links2 c t scope x.env2 x.left at x.right k b f.v f.r ops last g none f.reads f.same onward x.made x.held st.leads waits lows one (omega arith)))
 
   -- the operation, with its value read
-  assigned : (env : Env) (u : FrameState) (b : FrameArg) (r : Val) (ops : List FrameOp) (last : FrameEnd) (g : ℕ) → lasting_value p.shared env b ≡ Some r
+  assigned : (env : Env) (u : FrameState) (b : Arg) (r : Val) (ops : List FrameOp) (last : FrameEnd) (g : ℕ) → lasting_value p.shared env b ≡ Some r
       → step p (going (Running (Op.GlobalPut g b false ∷ ops) last env) u)
       ≡ or_wrong (slice_get u.globals g) (going (Running (Op.GlobalPut g b false ∷ ops) last env) u) (λ held. if_bound held (counted 2 (going (Running (Op.GlobalPut g b false ∷ ops) last env) u)) (λ old. going (Running ops last env) (counted 2 (with_global_at u g r))))
   assigned env u b r ops last g reads =
@@ -163,7 +162,7 @@ module _ (cps : Cps) (p : Frames) (laid : IsLaidOut cps p) (Low : ℕ → ℕ �
   assigned_heap scope k v s g = bound_heap scope k v s g (slice_get s.globals g)
 
   -- an assignment of a global that may be Unbound
-  assign_by : (links : Links) (c : Context) (t : ℕ) (scope : Scope) (env : Env) (s : State) (u : FrameState) (k : Cont) (b : FrameArg) (v r : Val) (ops : List FrameOp) (last : FrameEnd) (g : ℕ) (o q : Option Val) → slice_get s.globals g ≡ Some o → slice_get u.globals g ≡ Some q → SameOption (SameVal links) o q
+  assign_by : (links : Links) (c : Context) (t : ℕ) (scope : Scope) (env : Env) (s : State) (u : FrameState) (k : Cont) (b : Arg) (v r : Val) (ops : List FrameOp) (last : FrameEnd) (g : ℕ) (o q : Option Val) → slice_get s.globals g ≡ Some o → slice_get u.globals g ≡ Some q → SameOption (SameVal links) o q
       → code_of_global cps.shared g ≡ None → lasting_value p.shared env b ≡ Some r → SameVal links v r → Gives cps w c t k b ops last → SameMade cps w links s u → HoldAll w links scope env c.vars → Leads scope c.exits → Waits w links u.frames c.catches s.waiting u.live → LowBelow cps p laid Low u
       → Reaches cps p w Low (with_global g s (λ old. give P scope k v (with_global_to s g v))) (going (Running (Op.GlobalPut g b false ∷ ops) last env) u) (2 + give_moves cps p laid Low) (w.rank t)
   assign_by links c t scope env s u k b v r ops last g o q e f neither none reads value_same onward made held leads waits low =
@@ -175,7 +174,7 @@ module _ (cps : Cps) (p : Frames) (laid : IsLaidOut cps p) (Low : ℕ → ℕ �
       subst (λ z. Reaches cps p w Low z at (2 + give_moves cps p laid Low) (w.rank t)) (sym (ap (λ z. or_unbound z s (λ global. or_unbound global s (λ old. give P scope k v (with_global_to s g v)))) e))
       (put_reaches links c t scope env s at u k b v r ops last g none reads value_same onward made held leads waits low (assigned env u b r ops last g reads ∙ ap (λ z. or_wrong z at (λ held. if_bound held (counted 2 at) (λ old. going (Running ops last env) (counted 2 (with_global_at at g r))))) f) (omega arith))
 
-  pub set_reaches : (c : Context) (t g : ℕ) (scope : Scope) (env : Env) (s : State) (u : FrameState) (value : Arg) (k : Cont) (ms : List FrameOp) (b : FrameArg) (ops : List FrameOp) (last : FrameEnd) → g < length cps.shared.globals.items → code_of_global cps.shared g ≡ None
+  pub set_reaches : (c : Context) (t g : ℕ) (scope : Scope) (env : Env) (s : State) (u : FrameState) (value : Arg) (k : Cont) (ms : List FrameOp) (b : Arg) (ops : List FrameOp) (last : FrameEnd) → g < length cps.shared.globals.items → code_of_global cps.shared g ≡ None
       → Prepares cps w c.vars (value ∷ []) ms (b ∷ []) → Gives cps w c t k b ops last → Staged cps p w Low c scope env s (performed P scope (Node.GlobalSet g value k) s) u
       → Reaches cps p w Low (performed P scope (Node.GlobalSet g value k) s) (going (Running (ms ++ Op.GlobalPut g b false ∷ ops) last env) u) (1 * (1 + cps.shared.size) + (2 + give_moves cps p laid Low)) (w.rank t)
   set_reaches c t g scope env s u value k ms b ops last lt none d onward st =

@@ -7,7 +7,6 @@ use Rattle.cps_ir.specs.declared.terms.Term.TheVariants as Node
 use Rattle.cps_ir.specs.declared.terms.Cps.{Cps}
 use Rattle.cps_ir.specs.States.{Scope, State, Program, marked, all_escape, ended as ended_to}
 use Rattle.cps_ir.specs.Running.{performed}
-use Rattle.frame_ir.specs.declared.args.Arg.{Arg as FrameArg}
 use Rattle.frame_ir.specs.declared.forms.FrameOp.{FrameOp}
 use Rattle.frame_ir.specs.declared.forms.FrameEnd.TheVariants as Last
 use Rattle.frame_ir.specs.declared.forms.Frames.{Frames}
@@ -30,7 +29,7 @@ module _ (cps : Cps) (p : Frames) (laid : IsLaidOut cps p) (Low : ℕ → ℕ �
   abbrev P : Program
   P = marked cps all_escape
 
-  pub halt_reaches : (c : Context) (t : ℕ) (scope : Scope) (env : Env) (s : State) (u : FrameState) (value : Arg) (ms : List FrameOp) (b : FrameArg) → Prepares cps w c.vars (value ∷ []) ms (b ∷ [])
+  pub halt_reaches : (c : Context) (t : ℕ) (scope : Scope) (env : Env) (s : State) (u : FrameState) (value : Arg) (ms : List FrameOp) (b : Arg) → Prepares cps w c.vars (value ∷ []) ms (b ∷ [])
       → Staged cps p w Low c scope env s (performed P scope (Node.Halt value) s) u
       → Reaches cps p w Low (performed P scope (Node.Halt value) s) (going (Running ms (Last.Halt b) env) u) (1 * (1 + cps.shared.size) + (2 + 0)) (w.rank t)
   halt_reaches c t scope env s u value ms b d g =

@@ -11,7 +11,7 @@ use Rattle.cps_ir.specs.declared.terms.Cps.{Cps}
 use Rattle.cps_ir.specs.Reaches.{is_in}
 use Rattle.cps_ir.specs.States.{Meant, Direct, Bound, Scope, Control, At, Calling, Looking, Entering, Ended, State, Program, marked, all_escape, Pending, Waiting, Back, going as going_to, with_waiting}
 use Rattle.cps_ir.specs.Giving.{meant_by, binding, located, resumed, returned, given, give}
-use Rattle.frame_ir.specs.declared.args.Arg.{Arg as FrameArg}
+use Rattle.cps_ir.specs.declared.args.Arg.{Arg as FrameArg}
 use Rattle.frame_ir.specs.declared.forms.FrameOp.{FrameOp}
 use Rattle.frame_ir.specs.declared.forms.FrameOp.TheVariants as Op
 use Rattle.frame_ir.specs.declared.forms.FrameEnd.{FrameEnd}

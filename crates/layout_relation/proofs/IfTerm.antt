@@ -7,7 +7,6 @@ use Rattle.cps_ir.specs.declared.terms.Term.TheVariants as Node
 use Rattle.cps_ir.specs.declared.terms.Cps.{Cps}
 use Rattle.cps_ir.specs.States.{Scope, State, Program, marked, all_escape, At, going as going_to}
 use Rattle.cps_ir.specs.Running.{performed}
-use Rattle.frame_ir.specs.declared.args.Arg.{Arg as FrameArg}
 use Rattle.frame_ir.specs.declared.forms.FrameOp.{FrameOp}
 use Rattle.frame_ir.specs.declared.forms.FrameEnd.TheVariants as Last
 use Rattle.frame_ir.specs.declared.forms.Frames.{Frames}
@@ -55,7 +54,7 @@ module _ (cps : Cps) (p : Frames) (laid : IsLaidOut cps p) (Low : ℕ → ℕ �
   choose links c scope env s at v there_arm other_arm first_arm second_arm top true m e fy fn one made a held leads waits low = arm_reaches links c scope env s at v other_arm second_arm top fn (one ∙ ap (λ x. shown p (if x then other_arm else there_arm) env (counted 2 at)) (sym e)) made a held leads waits low
   choose links c scope env s at v there_arm other_arm first_arm second_arm top false m e fy fn one made a held leads waits low = arm_reaches links c scope env s at v there_arm first_arm top fy (one ∙ ap (λ x. shown p (if x then other_arm else there_arm) env (counted 2 at)) (sym e)) made a held leads waits low
 
-  pub if_reaches : (c : Context) (t : ℕ) (scope : Scope) (env : Env) (s : State) (u : FrameState) (test : Arg) (first_arm second_arm : ℕ) (ms : List FrameOp) (b : FrameArg) (there_arm other_arm : ℕ) → Prepares cps w c.vars (test ∷ []) ms (b ∷ []) → IsFor w there_arm (ArmOf c first_arm) → IsFor w other_arm (ArmOf c second_arm)
+  pub if_reaches : (c : Context) (t : ℕ) (scope : Scope) (env : Env) (s : State) (u : FrameState) (test : Arg) (first_arm second_arm : ℕ) (ms : List FrameOp) (b : Arg) (there_arm other_arm : ℕ) → Prepares cps w c.vars (test ∷ []) ms (b ∷ []) → IsFor w there_arm (ArmOf c first_arm) → IsFor w other_arm (ArmOf c second_arm)
       → Staged cps p w Low c scope env s (performed P scope (Node.If test first_arm second_arm) s) u
       → Reaches cps p w Low (performed P scope (Node.If test first_arm second_arm) s) (going (Running ms (Last.If b there_arm other_arm) env) u) (1 * (1 + cps.shared.size) + (2 + 0)) (w.rank t)
   if_reaches c t scope env s u test first_arm second_arm ms b there_arm other_arm d fy fn g =

@@ -14,7 +14,6 @@ use Rattle.cps_ir.specs.Giving.{or_broken}
 use Rattle.cps_ir.specs.Calls.{called as called_to, looked as looked_to, entered as entered_to}
 use Rattle.cps_ir.specs.Running.{performed, advanced, step as step_of}
 use Rattle.cps_ir.proofs.Steady.{steps_only_add}
-use Rattle.frame_ir.specs.declared.args.Arg.{Arg as FrameArg}
 use Rattle.frame_ir.specs.declared.forms.FrameOp.{FrameOp}
 use Rattle.frame_ir.specs.declared.forms.FrameEnd.{FrameEnd}
 use Rattle.frame_ir.specs.declared.forms.Frames.{Frames}
@@ -95,7 +94,7 @@ module _ (cps : Cps) (p : Frames) (laid : IsLaidOut cps p) where
 
   -- ---- terms
 
-  prepares_count : {vars : List (ℕ × ℕ)} (args : List Arg) (ms : List FrameOp) (bs : List FrameArg) → Prepares cps w vars args ms bs → length bs ≡ length args
+  prepares_count : {vars : List (ℕ × ℕ)} (args : List Arg) (ms : List FrameOp) (bs : List Arg) → Prepares cps w vars args ms bs → length bs ≡ length args
   prepares_count args ms bs prepares_none = refl
   prepares_count args ms bs (prepares_same x y as_ ns cs h rest) = ap suc (prepares_count as_ ns cs rest)
   prepares_count args ms bs (prepares_closure l to code kept as_ ns cs h u rest) = ap suc (prepares_count as_ ns cs rest)

@@ -12,8 +12,7 @@ use Rattle.cps_ir.specs.declared.terms.Cps.{Cps}
 use Rattle.cps_ir.specs.States.{Scope, State, Program, marked, all_escape, Object, Handler, taking as taking_to, with_object as with_object_to}
 use Rattle.cps_ir.specs.Giving.{with_arg, provided, record_words as most_words, way, give}
 use Rattle.cps_ir.specs.Running.{performed, handlers_of}
-use Rattle.frame_ir.specs.declared.args.Arg.{Arg as FrameArg}
-use Rattle.frame_ir.specs.declared.args.Arg.TheVariants as FrameArgument
+use Rattle.cps_ir.specs.declared.args.Arg.TheVariants as FrameArgument
 use Rattle.frame_ir.specs.declared.forms.Template.{Template}
 use Rattle.frame_ir.specs.declared.forms.FrameOp.{FrameOp}
 use Rattle.frame_ir.specs.declared.forms.FrameOp.TheVariants as Op
@@ -80,7 +79,7 @@ module _ (cps : Cps) (p : Frames) (laid : IsLaidOut cps p) (Low : ℕ → ℕ �
         escapes = made.escapes;
       }
 
-  pub object_reaches : (c : Context) (t : ℕ) (scope : Scope) (env : Env) (s : State) (u : FrameState) (proc : Arg) (names methods : List ℕ) (k : Cont) (ms : List FrameOp) (b : FrameArg) (template : ℕ) (shape : Template) (needs : List ℕ) (kept : List Var) (to : Var) (ops : List FrameOp) (last : FrameEnd)
+  pub object_reaches : (c : Context) (t : ℕ) (scope : Scope) (env : Env) (s : State) (u : FrameState) (proc : Arg) (names methods : List ℕ) (k : Cont) (ms : List FrameOp) (b : Arg) (template : ℕ) (shape : Template) (needs : List ℕ) (kept : List Var) (to : Var) (ops : List FrameOp) (last : FrameEnd)
       → Prepares cps w c.vars (proc ∷ []) ms (b ∷ []) → (length names == length methods) ≡ true → slice_get w.templates template ≡ Some shape → Zipped (IsMethod w needs) (zip names methods) (methods_of shape.ops shape.codes) → AreHeld c.vars needs kept → length needs ≤ cps.shared.size
       → IsUnused c.vars to.0 → Gives cps w c t k (FrameArgument.Var to) ops last → Staged cps p w Low c scope env s (performed P scope (Node.Object proc names methods k) s) u
       → Reaches cps p w Low (performed P scope (Node.Object proc names methods k) s) (going (Running (ms ++ Op.Object to template b kept ∷ ops) last env) u) (1 * (1 + cps.shared.size) + ((2 + length kept) + give_moves cps p laid Low)) (w.rank t)

@@ -9,7 +9,6 @@ use Rattle.cps_ir.specs.declared.terms.Cps.{Cps}
 use Rattle.cps_ir.specs.States.{Scope, marked, all_escape, State}
 use Rattle.cps_ir.specs.Giving.{lam_words, with_args}
 use Rattle.cps_ir.specs.Running.{closures_of}
-use Rattle.frame_ir.specs.declared.args.Arg.{Arg as FrameArg}
 use Rattle.frame_ir.specs.declared.forms.Place.TheVariants as At
 use Rattle.frame_ir.specs.declared.forms.FrameOp.{FrameOp}
 use Rattle.frame_ir.specs.declared.forms.FrameOp.TheVariants as Op
@@ -121,7 +120,7 @@ module _ (cps : Cps) (p : Frames) (w : Sketch) (small : (l : ℕ) → length (w.
 
   -- ---- arguments, with the closures made for them
 
-  pub record Prepared (links : Links) (scope : Scope) (vars : List (ℕ × ℕ)) (s : State) (t : FrameState) (args : List Arg) (ms ops : List FrameOp) (bs : List FrameArg) (last : FrameEnd) (env : Env) : Type 0 where
+  pub record Prepared (links : Links) (scope : Scope) (vars : List (ℕ × ℕ)) (s : State) (t : FrameState) (args : List Arg) (ms ops : List FrameOp) (bs : List Arg) (last : FrameEnd) (env : Env) : Type 0 where
     pub links2 : Links
     pub extends : Extends links links2
     pub left : State
@@ -145,7 +144,7 @@ module _ (cps : Cps) (p : Frames) (w : Sketch) (small : (l : ℕ) → length (w.
   same_count links scope [] = refl
   same_count links scope (l ∷ lams) = ap suc (same_count links scope lams)
 
-  pub prepared : (links : Links) (scope : Scope) (vars : List (ℕ × ℕ)) (s : State) (t : FrameState) (args : List Arg) (ms ops : List FrameOp) (bs : List FrameArg) (last : FrameEnd) (env : Env) → SameMade cps w links s t → HoldAll w links scope env vars
+  pub prepared : (links : Links) (scope : Scope) (vars : List (ℕ × ℕ)) (s : State) (t : FrameState) (args : List Arg) (ms ops : List FrameOp) (bs : List Arg) (last : FrameEnd) (env : Env) → SameMade cps w links s t → HoldAll w links scope env vars
       → Prepares cps w vars args ms bs → StartsApart ops → Prepared links scope vars s t args ms ops bs last env
   prepared links scope vars s t args ms ops bs last env made held d apart =
       let a = arguments cps w small links scope vars s (length t.closures) (youngest_birth t) env args ms bs made.procedures held d in

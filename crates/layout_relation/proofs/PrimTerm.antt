@@ -14,8 +14,7 @@ use Rattle.cps_ir.specs.declared.terms.Cps.{Cps}
 use Rattle.cps_ir.specs.States.{Scope, State, Program, marked, all_escape, faulted as faulted_to, with_store as store_to}
 use Rattle.cps_ir.specs.Giving.{after_row as row_to, way, give}
 use Rattle.cps_ir.specs.Running.{performed}
-use Rattle.frame_ir.specs.declared.args.Arg.{Arg as FrameArg}
-use Rattle.frame_ir.specs.declared.args.Arg.TheVariants as FrameArgument
+use Rattle.cps_ir.specs.declared.args.Arg.TheVariants as FrameArgument
 use Rattle.frame_ir.specs.declared.forms.FrameOp.{FrameOp}
 use Rattle.frame_ir.specs.declared.forms.FrameOp.TheVariants as Op
 use Rattle.frame_ir.specs.declared.forms.FrameEnd.{FrameEnd}
@@ -92,7 +91,7 @@ module _ (cps : Cps) (p : Frames) (laid : IsLaidOut cps p) (Low : ℕ → ℕ �
         related = record { links = links; made = remade cps w links s final u z made refl refl; doing = same_end (runs.Faulted fault) (EndedAt (runs.Faulted fault)) refl };
       })
 
-  pub prim_reaches : (c : Context) (t : ℕ) (scope : Scope) (env : Env) (s : State) (u : FrameState) (b : Builtin) (args : List Arg) (k : Cont) (ms : List FrameOp) (bs : List FrameArg) (to : Var) (ops : List FrameOp) (last : FrameEnd) → Prepares cps w c.vars args ms bs
+  pub prim_reaches : (c : Context) (t : ℕ) (scope : Scope) (env : Env) (s : State) (u : FrameState) (b : Builtin) (args : List Arg) (k : Cont) (ms : List FrameOp) (bs : List Arg) (to : Var) (ops : List FrameOp) (last : FrameEnd) → Prepares cps w c.vars args ms bs
       → IsUnused c.vars to.0 → Gives cps w c t k (FrameArgument.Var to) ops last → Staged cps p w Low c scope env s (performed P scope (Node.Prim b args k) s) u
       → Reaches cps p w Low (performed P scope (Node.Prim b args k) s) (going (Running (ms ++ Op.Prim to b bs ∷ ops) last env) u) (length args * (1 + cps.shared.size) + ((1 + length bs) + give_moves cps p laid Low)) (w.rank t)
   prim_reaches c t scope env s u b args k ms bs to ops last d unused onward g =

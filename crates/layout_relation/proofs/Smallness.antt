@@ -10,7 +10,6 @@ use Rattle.cps_ir.specs.declared.args.Arg.{Arg}
 use Rattle.cps_ir.specs.declared.terms.Cont.{Cont}
 use Rattle.cps_ir.specs.declared.terms.Term.{Term}
 use Rattle.cps_ir.specs.declared.terms.Cps.{Cps}
-use Rattle.frame_ir.specs.declared.args.Arg.{Arg as FrameArg}
 use Rattle.frame_ir.specs.declared.forms.Place.TheVariants as At
 use Rattle.frame_ir.specs.declared.forms.FrameOp.{FrameOp}
 use Rattle.frame_ir.specs.declared.forms.FrameOp.TheVariants as Op
@@ -119,7 +118,7 @@ module _ (cps : Cps) (p : Frames) (laid : IsLaidOut cps p) where
   closure_good : (vars : List (ℕ × ℕ)) (l : ℕ) (to : Var) (code : ℕ) (kept : List Var) (ms : List FrameOp) → MakesClosure cps w vars l to code kept ms → IsGood cps (Op.Closure to code kept At.Heap)
   closure_good vars l to code kept ms h = (refl, (let a = zipped_length _ _ _ h.holds in let b = laid.small l in omega (arith, a, b)))
 
-  prepares_good : (vars : List (ℕ × ℕ)) (args : List Arg) (ms : List FrameOp) (bs : List FrameArg) → Prepares cps w vars args ms bs → AreGood cps ms
+  prepares_good : (vars : List (ℕ × ℕ)) (args : List Arg) (ms : List FrameOp) (bs : List Arg) → Prepares cps w vars args ms bs → AreGood cps ms
   prepares_good vars args ms bs prepares_none = tt
   prepares_good vars args ms bs (prepares_same a b as_ ns cs h rest) = prepares_good vars as_ ns cs rest
   prepares_good vars args ms bs (prepares_closure l to code kept as_ ns cs h u rest) = (closure_good vars l to code kept ns h, prepares_good vars as_ ns cs rest)
@@ -136,7 +135,7 @@ module _ (cps : Cps) (p : Frames) (laid : IsLaidOut cps p) where
   push_good kept back r for count once = ((let a = (block_at cps p laid back (Resumes r) for).fits.small in omega (arith, a, count)), once)
 
   mutual
-    gives_good : (c : Context) (t : ℕ) (k : Cont) (a : FrameArg) (ops : List FrameOp) (last : FrameEnd) → Gives cps w c t k a ops last → AreGood cps ops
+    gives_good : (c : Context) (t : ℕ) (k : Cont) (a : Arg) (ops : List FrameOp) (last : FrameEnd) → Gives cps w c t k a ops last → AreGood cps ops
     gives_good c t k a ops last (gives_out c2 t2 j a2 out none) = tt
     gives_good c t k a ops last (gives_join c2 t2 j a2 m rest ys meets for held new few) = tt
     gives_good c t k a ops last (gives_jump c2 t2 param body a2 block needs ys for held new few) = tt

@@ -9,7 +9,6 @@ use Rattle.cps_ir.specs.declared.args.Arg.{Arg}
 use Rattle.cps_ir.specs.declared.terms.Cps.{Cps}
 use Rattle.cps_ir.specs.States.{Live, Scope, State, marked, all_escape, Waiting, Back, count_of, broken}
 use Rattle.cps_ir.specs.Giving.{with_args}
-use Rattle.frame_ir.specs.declared.args.Arg.{Arg as FrameArg}
 use Rattle.frame_ir.specs.declared.forms.FrameOp.{FrameOp}
 use Rattle.frame_ir.specs.declared.forms.FrameEnd.{FrameEnd}
 use Rattle.frame_ir.specs.declared.forms.Frames.{Frames}
@@ -44,14 +43,14 @@ waits_count w links frames cs waiting live (waits_framed catch pending rest birt
 
 -- ---- lists of values
 
-pub record Cons (shared : Shared) (env : Env) (b : FrameArg) (bs : List FrameArg) (values : List Val) : Type 0 where
+pub record Cons (shared : Shared) (env : Env) (b : Arg) (bs : List Arg) (values : List Val) : Type 0 where
   pub head : Val
   pub tail : List Val
   pub are : values ≡ head ∷ tail
   pub first : lasting_value shared env b ≡ Some head
   pub others : lasting_values shared env bs ≡ Some tail
 
-read_from : (shared : Shared) (env : Env) (b : FrameArg) (bs : List FrameArg) (values : List Val) (o : Option Val) (os : Option (List Val)) → lasting_value shared env b ≡ o → lasting_values shared env bs ≡ os
+read_from : (shared : Shared) (env : Env) (b : Arg) (bs : List Arg) (values : List Val) (o : Option Val) (os : Option (List Val)) → lasting_value shared env b ≡ o → lasting_values shared env bs ≡ os
     → option_and_then (λ y. option_map (λ ys. y ∷ ys) os) o ≡ Some values → Cons shared env b bs values
 read_from shared env b bs values None os e f h = absurd (never values h)
   where
@@ -66,7 +65,7 @@ read_from shared env b bs values (Some v) (Some vs) e f h = record { head = v; t
     same : (a b : List Val) → Some a ≡ Some b → a ≡ b
     same a b h = cc
 
-pub read_cons : (shared : Shared) (env : Env) (b : FrameArg) (bs : List FrameArg) (values : List Val) → lasting_values shared env (b ∷ bs) ≡ Some values → Cons shared env b bs values
+pub read_cons : (shared : Shared) (env : Env) (b : Arg) (bs : List Arg) (values : List Val) → lasting_values shared env (b ∷ bs) ≡ Some values → Cons shared env b bs values
 read_cons shared env b bs values e = read_from shared env b bs values (lasting_value shared env b) (lasting_values shared env bs) refl refl e
 
 pub record ZipCons {A B : Type 0} (R : A → B → Type 0) (xs : List A) (y : B) (ys : List B) : Type 0 where
@@ -100,7 +99,7 @@ with_others go s [] = broken s
 with_others go s (v ∷ vs) = go s v vs
 
 -- arguments, of which there is a first one
-pub record First (cps : Cps) (p : Frames) (laid : IsLaidOut cps p) (Low : ℕ → ℕ → Type 0) (links : Links) (scope : Scope) (vars : List (ℕ × ℕ)) (s : State) (u : FrameState) (a : Arg) (args : List Arg) (ms ops : List FrameOp) (b : FrameArg) (bs : List FrameArg) (last : FrameEnd) (env : Env) : Type 0 where
+pub record First (cps : Cps) (p : Frames) (laid : IsLaidOut cps p) (Low : ℕ → ℕ → Type 0) (links : Links) (scope : Scope) (vars : List (ℕ × ℕ)) (s : State) (u : FrameState) (a : Arg) (args : List Arg) (ms ops : List FrameOp) (b : Arg) (bs : List Arg) (last : FrameEnd) (env : Env) : Type 0 where
   pub x : Prepared cps p laid.sketch laid.small Low links scope vars s u (a ∷ args) ms ops (b ∷ bs) last env
   pub v : Val
   pub vs : List Val
@@ -112,7 +111,7 @@ pub record First (cps : Cps) (p : Frames) (laid : IsLaidOut cps p) (Low : ℕ �
   pub same : SameVal x.links2 v r
   pub sames : Zipped (SameVal x.links2) vs rs
 
-pub first : (cps : Cps) (p : Frames) (laid : IsLaidOut cps p) (Low : ℕ → ℕ → Type 0) (links : Links) (scope : Scope) (vars : List (ℕ × ℕ)) (s : State) (u : FrameState) (a : Arg) (args : List Arg) (ms ops : List FrameOp) (b : FrameArg) (bs : List FrameArg) (last : FrameEnd) (env : Env)
+pub first : (cps : Cps) (p : Frames) (laid : IsLaidOut cps p) (Low : ℕ → ℕ → Type 0) (links : Links) (scope : Scope) (vars : List (ℕ × ℕ)) (s : State) (u : FrameState) (a : Arg) (args : List Arg) (ms ops : List FrameOp) (b : Arg) (bs : List Arg) (last : FrameEnd) (env : Env)
     → SameMade cps laid.sketch links s u → HoldAll laid.sketch links scope env vars → Prepares cps laid.sketch vars (a ∷ args) ms (b ∷ bs) → StartsApart ops → First cps p laid Low links scope vars s u a args ms ops b bs last env
 first cps p laid Low links scope vars s u a args ms ops b bs last env made held d apart =
     let x = prepared cps p laid.sketch laid.small Low links scope vars s u (a ∷ args) ms ops (b ∷ bs) last env made held d apart in

@@ -1,5 +1,5 @@
 -- Calls that are made or passed on, and operations that look for their default, on both sides.
-use Rattle.frame_ir.specs.declared.args.Arg.TheVariants as FrameArgument
+use Rattle.cps_ir.specs.declared.args.Arg.TheVariants as FrameArgument
 use Rattle.frame_ir.specs.declared.forms.FrameEnd.TheVariants as Last
 use Rattle.frame_ir.specs.declared.forms.Block.{Block}
 use Rattle.frame_ir.specs.Running.{step}

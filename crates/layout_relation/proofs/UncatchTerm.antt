@@ -8,7 +8,6 @@ use Rattle.cps_ir.specs.declared.terms.Cps.{Cps}
 use Rattle.cps_ir.specs.States.{Scope, State, Program, marked, all_escape, Waiting, Live, with_waiting, Pending}
 use Rattle.cps_ir.specs.Giving.{way, give}
 use Rattle.cps_ir.specs.Running.{performed, closing_catch}
-use Rattle.frame_ir.specs.declared.args.Arg.{Arg as FrameArg}
 use Rattle.frame_ir.specs.declared.forms.FrameOp.{FrameOp}
 use Rattle.frame_ir.specs.declared.forms.FrameOp.TheVariants as Op
 use Rattle.frame_ir.specs.declared.forms.FrameEnd.{FrameEnd}
@@ -121,7 +120,7 @@ module _ (cps : Cps) (p : Frames) (laid : IsLaidOut cps p) (Low : ℕ → ℕ �
   abbrev ends : Scope → Cont → State → Val → List Val → State
   ends scope k t v vs = closing_catch t.waiting t (λ u. give P scope k v u)
 
-  pub bare_reaches : (c : Context) (t : ℕ) (scope : Scope) (env : Env) (s : State) (u : FrameState) (k : Cont) (value : Arg) (outer : List Catching) (ms : List FrameOp) (b : FrameArg) (ops : List FrameOp) (last : FrameEnd) → c.catches ≡ Bare ∷ outer → Prepares cps w c.vars (value ∷ []) ms (b ∷ [])
+  pub bare_reaches : (c : Context) (t : ℕ) (scope : Scope) (env : Env) (s : State) (u : FrameState) (k : Cont) (value : Arg) (outer : List Catching) (ms : List FrameOp) (b : Arg) (ops : List FrameOp) (last : FrameEnd) → c.catches ≡ Bare ∷ outer → Prepares cps w c.vars (value ∷ []) ms (b ∷ [])
       → Gives cps w (record c { catches = outer }) t k b ops last → Staged cps p w Low c scope env s (performed P scope (Node.Uncatch k value) s) u
       → Reaches cps p w Low (performed P scope (Node.Uncatch k value) s) (going (Running (ms ++ Op.CatchClose ∷ ops) last env) u) (1 * (1 + cps.shared.size) + (1 + give_moves cps p laid Low)) (w.rank t)
   bare_reaches c t scope env s u k value outer ms b ops last open_ d onward st =
@@ -145,7 +144,7 @@ module _ (cps : Cps) (p : Frames) (laid : IsLaidOut cps p) (Low : ℕ → ℕ �
       (reaches_after cps p w Low final (going (Running (ms ++ Op.CatchClose ∷ ops) last env) u) at (1 * (1 + cps.shared.size)) (1 + give_moves cps p laid Low) (w.rank t) path
       (reaches_after cps p w Low final at on 1 (give_moves cps p laid Low) (w.rank t) (steps p Low at on 1 one (omega arith) (lows (length u2.live) (omega arith))) arrives))
 
-  pub framed_reaches : (c : Context) (t : ℕ) (scope : Scope) (env : Env) (s : State) (u : FrameState) (k : Cont) (value : Arg) (outer : List Catching) (ms : List FrameOp) (b : FrameArg) (ops : List FrameOp) (last : FrameEnd) → c.catches ≡ Framed ∷ outer → Prepares cps w c.vars (value ∷ []) ms (b ∷ [])
+  pub framed_reaches : (c : Context) (t : ℕ) (scope : Scope) (env : Env) (s : State) (u : FrameState) (k : Cont) (value : Arg) (outer : List Catching) (ms : List FrameOp) (b : Arg) (ops : List FrameOp) (last : FrameEnd) → c.catches ≡ Framed ∷ outer → Prepares cps w c.vars (value ∷ []) ms (b ∷ [])
       → Gives cps w (record c { catches = outer }) t k b ops last → Staged cps p w Low c scope env s (performed P scope (Node.Uncatch k value) s) u
       → Reaches cps p w Low (performed P scope (Node.Uncatch k value) s) (going (Running (ms ++ Op.CatchClose ∷ Op.Pop ∷ ops) last env) u) (1 * (1 + cps.shared.size) + (1 + (1 + give_moves cps p laid Low))) (w.rank t)
   framed_reaches c t scope env s u k value outer ms b ops last open_ d onward st =

@@ -4,7 +4,7 @@ use Rattle.std.specs.Global.{Global}
 use Rattle.t_base.specs.declared.builtins.Builtin.TheVariants.{Add}
 use Rattle.cps_ir.specs.Writing.{vec_of, var}
 use Rattle.cps_ir.specs.Examples.{catch_over_two}
-use Rattle.frame_ir.specs.declared.args.Arg.TheVariants as Argument
+use Rattle.cps_ir.specs.declared.args.Arg.TheVariants as Argument
 use Rattle.frame_ir.specs.declared.forms.FrameOp.TheVariants as Op
 use Rattle.frame_ir.specs.declared.forms.FrameEnd.TheVariants as Last
 use Rattle.frame_ir.specs.declared.forms.Frames.{Frames}

@@ -18,8 +18,6 @@ use Rattle.cps_ir.specs.declared.terms.Term.TheVariants as Node
 use Rattle.cps_ir.specs.declared.terms.Cps.{Cps}
 use Rattle.cps_ir.specs.Parts.{first_lams, is_assigned}
 use Rattle.cps_ir.specs.Reaches.{is_in}
-use Rattle.frame_ir.specs.declared.args.Arg.{Arg as FrameArg}
-use Rattle.frame_ir.specs.declared.args.Arg.TheVariants as FrameArgument
 use Rattle.frame_ir.specs.declared.forms.Place.TheVariants as At
 use Rattle.frame_ir.specs.declared.forms.FrameOp.{FrameOp}
 use Rattle.frame_ir.specs.declared.forms.FrameOp.TheVariants as Op
@@ -60,8 +58,8 @@ AreDistinct (x ∷ xs) = (is_in xs x ≡ false) × AreDistinct xs
 abbrev pub AreHeld : List (ℕ × ℕ) → List ℕ → List Var → Type 0
 AreHeld vars xs ys = Zipped (λ x y. IsIn (x, y.0) vars) xs ys
 
-abbrev pub variables : List Var → List FrameArg
-variables ys = map FrameArgument.Var ys
+abbrev pub variables : List Var → List Arg
+variables ys = map Argument.Var ys
 
 -- a variable that is bound to a value where these are needed
 pub record IsNewIn (w : Sketch) (needs : List ℕ) (exits : Exits) (x : ℕ) : Type 0 where
@@ -104,19 +102,19 @@ StartsApart (op ∷ ops) = is_closure op ≡ false
 
 -- ---- arguments
 
-pub data SameArg (cps : Cps) (w : Sketch) (vars : List (ℕ × ℕ)) : Arg → FrameArg → Type 0 where
-  same_const : (k : Const) → SameArg cps w vars (Argument.Const k) (FrameArgument.Const k)
-  same_var : (x y : Var) → IsIn (x.0, y.0) vars → w.celled x.0 ≡ false → SameArg cps w vars (Argument.Var x) (FrameArgument.Var y)
-  same_global : (g code : ℕ) → code_of_global cps.shared g ≡ Some code → SameArg cps w vars (Argument.Global g) (FrameArgument.Global g)
-  same_builtin : (b : Builtin) → SameArg cps w vars (Argument.Builtin b) (FrameArgument.Builtin b)
-  same_op : (o : ℕ) → SameArg cps w vars (Argument.Op o) (FrameArgument.Op o)
+pub data SameArg (cps : Cps) (w : Sketch) (vars : List (ℕ × ℕ)) : Arg → Arg → Type 0 where
+  same_const : (k : Const) → SameArg cps w vars (Argument.Const k) (Argument.Const k)
+  same_var : (x y : Var) → IsIn (x.0, y.0) vars → w.celled x.0 ≡ false → SameArg cps w vars (Argument.Var x) (Argument.Var y)
+  same_global : (g code : ℕ) → code_of_global cps.shared g ≡ Some code → SameArg cps w vars (Argument.Global g) (Argument.Global g)
+  same_builtin : (b : Builtin) → SameArg cps w vars (Argument.Builtin b) (Argument.Builtin b)
+  same_op : (o : ℕ) → SameArg cps w vars (Argument.Op o) (Argument.Op o)
 
 -- arguments, with the closures that are made for them
-pub data Prepares (cps : Cps) (w : Sketch) (vars : List (ℕ × ℕ)) : List Arg → List FrameOp → List FrameArg → Type 0 where
+pub data Prepares (cps : Cps) (w : Sketch) (vars : List (ℕ × ℕ)) : List Arg → List FrameOp → List Arg → Type 0 where
   prepares_none : Prepares cps w vars [] [] []
-  prepares_same : (a : Arg) (b : FrameArg) (args : List Arg) (made : List FrameOp) (bs : List FrameArg) → SameArg cps w vars a b → Prepares cps w vars args made bs → Prepares cps w vars (a ∷ args) made (b ∷ bs)
-  prepares_closure : (l : ℕ) (to : Var) (code : ℕ) (kept : List Var) (args : List Arg) (made : List FrameOp) (bs : List FrameArg) → MakesClosure cps w vars l to code kept made → IsUnused vars to.0
-      → Prepares cps w vars args made bs → Prepares cps w vars (Argument.Proc l ∷ args) (Op.Closure to code kept At.Heap ∷ made) (FrameArgument.Var to ∷ bs)
+  prepares_same : (a : Arg) (b : Arg) (args : List Arg) (made : List FrameOp) (bs : List Arg) → SameArg cps w vars a b → Prepares cps w vars args made bs → Prepares cps w vars (a ∷ args) made (b ∷ bs)
+  prepares_closure : (l : ℕ) (to : Var) (code : ℕ) (kept : List Var) (args : List Arg) (made : List FrameOp) (bs : List Arg) → MakesClosure cps w vars l to code kept made → IsUnused vars to.0
+      → Prepares cps w vars args made bs → Prepares cps w vars (Argument.Proc l ∷ args) (Op.Closure to code kept At.Heap ∷ made) (Argument.Var to ∷ bs)
 
 -- the closures of a Labels, each of which sees all of its names
 pub data Labels (cps : Cps) (w : Sketch) (vars : List (ℕ × ℕ)) : List Var → List ℕ → List FrameOp → List Var → Type 0 where
@@ -151,20 +149,20 @@ pub data Awaits (c : Context) : Cont → Return → Type 0 where
 -- The rest of a block gives a value to a continuation: it returns it, jumps with it and with what is needed besides, or goes on in place,
 -- with the value in the parameter or, where this isn't needed, nowhere.
 mutual
-  pub data Gives (cps : Cps) (w : Sketch) : Context → ℕ → Cont → FrameArg → List FrameOp → FrameEnd → Type 0 where
-    gives_out : (c : Context) (t : ℕ) (k : Var) (a : FrameArg) → exit_of c.exits k.0 ≡ Leaves → c.catches ≡ []
+  pub data Gives (cps : Cps) (w : Sketch) : Context → ℕ → Cont → Arg → List FrameOp → FrameEnd → Type 0 where
+    gives_out : (c : Context) (t : ℕ) (k : Var) (a : Arg) → exit_of c.exits k.0 ≡ Leaves → c.catches ≡ []
         → Gives cps w c t (Continuation.Var k) a [] (Last.Return a)
-    gives_join : (c : Context) (t : ℕ) (k : Var) (a : FrameArg) (m : Meeting) (rest : Exits) (ys : List Var) → exit_of c.exits k.0 ≡ Meets m rest
+    gives_join : (c : Context) (t : ℕ) (k : Var) (a : Arg) (m : Meeting) (rest : Exits) (ys : List Var) → exit_of c.exits k.0 ≡ Meets m rest
         → IsFor w m.block (Begins (record { vars = m.param ∷ m.needs; exits = rest; catches = c.catches; term = m.body }))
         → AreHeld c.vars m.needs ys → IsNewIn w m.needs rest m.param → length m.needs ≤ most_needs cps
         → Gives cps w c t (Continuation.Var k) a [] (Last.Jump m.block (a ∷ variables ys))
-    gives_jump : (c : Context) (t : ℕ) (param : Var) (body : ℕ) (a : FrameArg) (block : ℕ) (needs : List ℕ) (ys : List Var)
+    gives_jump : (c : Context) (t : ℕ) (param : Var) (body : ℕ) (a : Arg) (block : ℕ) (needs : List ℕ) (ys : List Var)
         → IsFor w block (Begins (record { vars = param.0 ∷ needs; exits = c.exits; catches = c.catches; term = body }))
         → AreHeld c.vars needs ys → IsNewIn w needs c.exits param.0 → length needs ≤ most_needs cps
         → Gives cps w c t (Continuation.Lam param body) a [] (Last.Jump block (a ∷ variables ys))
     gives_here : (c : Context) (t : ℕ) (param : Var) (body : ℕ) (x : Var) (ops : List FrameOp) (last : FrameEnd) → IsFresh c param.0 → w.celled param.0 ≡ false → w.rank body < w.rank t
-        → Lays cps w (with_var param.0 x.0 c) body ops last → Gives cps w c t (Continuation.Lam param body) (FrameArgument.Var x) ops last
-    gives_unused : (c : Context) (t : ℕ) (param : Var) (body : ℕ) (a : FrameArg) (ops : List FrameOp) (last : FrameEnd) → IsFresh c param.0 → w.rank body < w.rank t
+        → Lays cps w (with_var param.0 x.0 c) body ops last → Gives cps w c t (Continuation.Lam param body) (Argument.Var x) ops last
+    gives_unused : (c : Context) (t : ℕ) (param : Var) (body : ℕ) (a : Arg) (ops : List FrameOp) (last : FrameEnd) → IsFresh c param.0 → w.rank body < w.rank t
         → Lays cps w c body ops last → Gives cps w c t (Continuation.Lam param body) a ops last
 
   -- a term that is laid out here, or in a block of its own
@@ -179,17 +177,17 @@ mutual
   -- by kinds of terms
   pub data LaysTerm (cps : Cps) (w : Sketch) : Context → ℕ → Term → List FrameOp → FrameEnd → Type 0 where
     -- a tail call: no frame
-    lays_tail_call : (c : Context) (t : ℕ) (f : Arg) (args : List Arg) (k : Var) (made : List FrameOp) (g : FrameArg) (bs : List FrameArg) → Prepares cps w c.vars (f ∷ args) made (g ∷ bs)
+    lays_tail_call : (c : Context) (t : ℕ) (f : Arg) (args : List Arg) (k : Var) (made : List FrameOp) (g : Arg) (bs : List Arg) → Prepares cps w c.vars (f ∷ args) made (g ∷ bs)
         → exit_of c.exits k.0 ≡ Leaves → c.catches ≡ []
         → LaysTerm cps w c t (Node.Call f args (Continuation.Var k)) made (Last.Call g bs)
-    lays_call : (c : Context) (t : ℕ) (f : Arg) (args : List Arg) (k : Cont) (made : List FrameOp) (g : FrameArg) (bs : List FrameArg) (return : Return) (kept : List Var) (back : ℕ)
+    lays_call : (c : Context) (t : ℕ) (f : Arg) (args : List Arg) (k : Cont) (made : List FrameOp) (g : Arg) (bs : List Arg) (return : Return) (kept : List Var) (back : ℕ)
         → Prepares cps w c.vars (f ∷ args) made (g ∷ bs)
         → Awaits c k return → IsFor w back (Resumes return) → AreHeld c.vars return.kept kept → AreDistinct (numbers kept)
         → LaysTerm cps w c t (Node.Call f args k) (made ++ Op.Push kept back ∷ []) (Last.Call g bs)
-    lays_prim : (c : Context) (t : ℕ) (b : Builtin) (args : List Arg) (k : Cont) (made : List FrameOp) (bs : List FrameArg) (to : Var) (ops : List FrameOp) (last : FrameEnd)
-        → Prepares cps w c.vars args made bs → IsUnused c.vars to.0 → Gives cps w c t k (FrameArgument.Var to) ops last
+    lays_prim : (c : Context) (t : ℕ) (b : Builtin) (args : List Arg) (k : Cont) (made : List FrameOp) (bs : List Arg) (to : Var) (ops : List FrameOp) (last : FrameEnd)
+        → Prepares cps w c.vars args made bs → IsUnused c.vars to.0 → Gives cps w c t k (Argument.Var to) ops last
         → LaysTerm cps w c t (Node.Prim b args k) (made ++ Op.Prim to b bs ∷ ops) last
-    lays_if : (c : Context) (t : ℕ) (test : Arg) (first second : ℕ) (made : List FrameOp) (b : FrameArg) (yes no : ℕ) → Prepares cps w c.vars (test ∷ []) made (b ∷ [])
+    lays_if : (c : Context) (t : ℕ) (test : Arg) (first second : ℕ) (made : List FrameOp) (b : Arg) (yes no : ℕ) → Prepares cps w c.vars (test ∷ []) made (b ∷ [])
         → IsFor w yes (ArmOf c first) → IsFor w no (ArmOf c second)
         → LaysTerm cps w c t (Node.If test first second) made (Last.If b yes no)
     lays_labels : (c : Context) (t : ℕ) (xs : List Var) (lams : List ℕ) (body : ℕ) (made : List FrameOp) (tos : List Var) (ops : List FrameOp) (last : FrameEnd)
@@ -199,28 +197,28 @@ mutual
     lays_join : (c : Context) (t : ℕ) (k param : Var) (body rest block : ℕ) (needs : List ℕ) (ops : List FrameOp) (last : FrameEnd) → w.rank rest < w.rank t
         → Lays cps w (record c { exits = JoinExit (record { k = k.0; param = param.0; body = body; block = block; needs = needs }) c.exits }) rest ops last
         → LaysTerm cps w c t (Node.Join k param body rest) ops last
-    lays_give : (c : Context) (t : ℕ) (k : Cont) (value : Arg) (made : List FrameOp) (b : FrameArg) (ops : List FrameOp) (last : FrameEnd) → Prepares cps w c.vars (value ∷ []) made (b ∷ [])
+    lays_give : (c : Context) (t : ℕ) (k : Cont) (value : Arg) (made : List FrameOp) (b : Arg) (ops : List FrameOp) (last : FrameEnd) → Prepares cps w c.vars (value ∷ []) made (b ∷ [])
         → StartsApart ops → Gives cps w c t k b ops last
         → LaysTerm cps w c t (Node.Give k value) (made ++ ops) last
-    lays_global_get : (c : Context) (t g : ℕ) (k : Cont) (to : Var) (ops : List FrameOp) (last : FrameEnd) → g < length cps.shared.globals.items → IsUnused c.vars to.0 → Gives cps w c t k (FrameArgument.Var to) ops last
+    lays_global_get : (c : Context) (t g : ℕ) (k : Cont) (to : Var) (ops : List FrameOp) (last : FrameEnd) → g < length cps.shared.globals.items → IsUnused c.vars to.0 → Gives cps w c t k (Argument.Var to) ops last
         → LaysTerm cps w c t (Node.GlobalGet g k) (Op.GlobalGet to g ∷ ops) last
-    lays_global_init : (c : Context) (t g : ℕ) (value : Arg) (k : Cont) (made : List FrameOp) (b : FrameArg) (ops : List FrameOp) (last : FrameEnd) → g < length cps.shared.globals.items → code_of_global cps.shared g ≡ None
+    lays_global_init : (c : Context) (t g : ℕ) (value : Arg) (k : Cont) (made : List FrameOp) (b : Arg) (ops : List FrameOp) (last : FrameEnd) → g < length cps.shared.globals.items → code_of_global cps.shared g ≡ None
         → Prepares cps w c.vars (value ∷ []) made (b ∷ []) → Gives cps w c t k b ops last
         → LaysTerm cps w c t (Node.GlobalInit g value k) (made ++ Op.GlobalPut g b true ∷ ops) last
-    lays_global_set : (c : Context) (t g : ℕ) (value : Arg) (k : Cont) (made : List FrameOp) (b : FrameArg) (ops : List FrameOp) (last : FrameEnd) → g < length cps.shared.globals.items → code_of_global cps.shared g ≡ None
+    lays_global_set : (c : Context) (t g : ℕ) (value : Arg) (k : Cont) (made : List FrameOp) (b : Arg) (ops : List FrameOp) (last : FrameEnd) → g < length cps.shared.globals.items → code_of_global cps.shared g ≡ None
         → Prepares cps w c.vars (value ∷ []) made (b ∷ []) → Gives cps w c t k b ops last
         → LaysTerm cps w c t (Node.GlobalSet g value k) (made ++ Op.GlobalPut g b false ∷ ops) last
-    lays_cell : (c : Context) (t : ℕ) (x : Var) (value : Arg) (rest : ℕ) (made : List FrameOp) (b : FrameArg) (to : Var) (ops : List FrameOp) (last : FrameEnd) → Prepares cps w c.vars (value ∷ []) made (b ∷ [])
+    lays_cell : (c : Context) (t : ℕ) (x : Var) (value : Arg) (rest : ℕ) (made : List FrameOp) (b : Arg) (to : Var) (ops : List FrameOp) (last : FrameEnd) → Prepares cps w c.vars (value ∷ []) made (b ∷ [])
         → IsFresh c x.0 → w.celled x.0 ≡ true → IsUnused c.vars to.0 → GoesOn cps w (with_var x.0 to.0 c) rest ops last
         → LaysTerm cps w c t (Node.Cell x value rest) (made ++ Op.Cell to b ∷ ops) last
-    lays_cell_get : (c : Context) (t : ℕ) (x y : Var) (k : Cont) (to : Var) (ops : List FrameOp) (last : FrameEnd) → IsIn (x.0, y.0) c.vars → w.celled x.0 ≡ true → IsUnused c.vars to.0 → Gives cps w c t k (FrameArgument.Var to) ops last
+    lays_cell_get : (c : Context) (t : ℕ) (x y : Var) (k : Cont) (to : Var) (ops : List FrameOp) (last : FrameEnd) → IsIn (x.0, y.0) c.vars → w.celled x.0 ≡ true → IsUnused c.vars to.0 → Gives cps w c t k (Argument.Var to) ops last
         → LaysTerm cps w c t (Node.CellGet x k) (Op.CellGet to y ∷ ops) last
-    lays_cell_set : (c : Context) (t : ℕ) (x y : Var) (value : Arg) (k : Cont) (made : List FrameOp) (b : FrameArg) (ops : List FrameOp) (last : FrameEnd) → Prepares cps w c.vars (value ∷ []) made (b ∷ [])
+    lays_cell_set : (c : Context) (t : ℕ) (x y : Var) (value : Arg) (k : Cont) (made : List FrameOp) (b : Arg) (ops : List FrameOp) (last : FrameEnd) → Prepares cps w c.vars (value ∷ []) made (b ∷ [])
         → IsIn (x.0, y.0) c.vars → w.celled x.0 ≡ true → Gives cps w c t k b ops last
         → LaysTerm cps w c t (Node.CellSet x value k) (made ++ Op.CellSet y b ∷ ops) last
-    lays_object : (c : Context) (t : ℕ) (proc : Arg) (names methods : List ℕ) (k : Cont) (made : List FrameOp) (b : FrameArg) (template : ℕ) (shape : Template) (needs : List ℕ) (kept : List Var) (to : Var) (ops : List FrameOp) (last : FrameEnd)
+    lays_object : (c : Context) (t : ℕ) (proc : Arg) (names methods : List ℕ) (k : Cont) (made : List FrameOp) (b : Arg) (template : ℕ) (shape : Template) (needs : List ℕ) (kept : List Var) (to : Var) (ops : List FrameOp) (last : FrameEnd)
         → Prepares cps w c.vars (proc ∷ []) made (b ∷ []) → (length names == length methods) ≡ true → slice_get w.templates template ≡ Some shape
-        → Zipped (IsMethod w needs) (zip names methods) (methods_of shape.ops shape.codes) → AreHeld c.vars needs kept → length needs ≤ cps.shared.size → IsUnused c.vars to.0 → Gives cps w c t k (FrameArgument.Var to) ops last
+        → Zipped (IsMethod w needs) (zip names methods) (methods_of shape.ops shape.codes) → AreHeld c.vars needs kept → length needs ≤ cps.shared.size → IsUnused c.vars to.0 → Gives cps w c t k (Argument.Var to) ops last
         → LaysTerm cps w c t (Node.Object proc names methods k) (made ++ Op.Object to template b kept ∷ ops) last
     -- a CATCH in a tail place has no Push; another one has that of its continuation, and both have the same return block
     lays_tail_catch : (c : Context) (t : ℕ) (x : Var) (body : ℕ) (k to : Var) (back : ℕ) (ops : List FrameOp) (last : FrameEnd) → exit_of c.exits k.0 ≡ Leaves → c.catches ≡ [] → IsFor w back PassesOn
@@ -229,13 +227,13 @@ mutual
     lays_catch : (c : Context) (t : ℕ) (x : Var) (body : ℕ) (k : Cont) (return : Return) (kept : List Var) (to : Var) (back : ℕ) (ops : List FrameOp) (last : FrameEnd) → Awaits c k return → IsFor w back (Resumes return) → AreHeld c.vars return.kept kept → AreDistinct (numbers kept)
         → IsFresh c x.0 → w.celled x.0 ≡ false → IsUnused c.vars to.0 → GoesOn cps w (record c { vars = (x.0, to.0) ∷ c.vars; catches = Framed ∷ c.catches }) body ops last
         → LaysTerm cps w c t (Node.Catch x body k) (Op.Push kept back ∷ Op.CatchOpen to back ∷ ops) last
-    lays_tail_uncatch : (c : Context) (t : ℕ) (k : Cont) (value : Arg) (outer : List Catching) (made : List FrameOp) (b : FrameArg) (ops : List FrameOp) (last : FrameEnd) → c.catches ≡ Bare ∷ outer → Prepares cps w c.vars (value ∷ []) made (b ∷ [])
+    lays_tail_uncatch : (c : Context) (t : ℕ) (k : Cont) (value : Arg) (outer : List Catching) (made : List FrameOp) (b : Arg) (ops : List FrameOp) (last : FrameEnd) → c.catches ≡ Bare ∷ outer → Prepares cps w c.vars (value ∷ []) made (b ∷ [])
         → Gives cps w (record c { catches = outer }) t k b ops last
         → LaysTerm cps w c t (Node.Uncatch k value) (made ++ Op.CatchClose ∷ ops) last
-    lays_uncatch : (c : Context) (t : ℕ) (k : Cont) (value : Arg) (outer : List Catching) (made : List FrameOp) (b : FrameArg) (ops : List FrameOp) (last : FrameEnd) → c.catches ≡ Framed ∷ outer → Prepares cps w c.vars (value ∷ []) made (b ∷ [])
+    lays_uncatch : (c : Context) (t : ℕ) (k : Cont) (value : Arg) (outer : List Catching) (made : List FrameOp) (b : Arg) (ops : List FrameOp) (last : FrameEnd) → c.catches ≡ Framed ∷ outer → Prepares cps w c.vars (value ∷ []) made (b ∷ [])
         → Gives cps w (record c { catches = outer }) t k b ops last
         → LaysTerm cps w c t (Node.Uncatch k value) (made ++ Op.CatchClose ∷ Op.Pop ∷ ops) last
-    lays_halt : (c : Context) (t : ℕ) (value : Arg) (made : List FrameOp) (b : FrameArg) → Prepares cps w c.vars (value ∷ []) made (b ∷ [])
+    lays_halt : (c : Context) (t : ℕ) (value : Arg) (made : List FrameOp) (b : Arg) → Prepares cps w c.vars (value ∷ []) made (b ∷ [])
         → LaysTerm cps w c t (Node.Halt value) made (Last.Halt b)
 
 -- ---- blocks
@@ -310,7 +308,7 @@ pub record PassingFits (b : Block) : Type 0 where
   pub value : Var
   pub takes : b.params ≡ value ∷ []
   pub ops : b.ops.items ≡ []
-  pub goes : b.last ≡ Last.Return (FrameArgument.Var value)
+  pub goes : b.last ≡ Last.Return (Argument.Var value)
 
 abbrev pub BlockFits : Cps → Sketch → Purpose → Block → Type 0
 BlockFits cps w (CodeOf l) b = CodeFits cps w l b
