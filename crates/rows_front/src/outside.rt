@@ -180,25 +180,6 @@ fn a_folder_is_no_file(rt: HostRuntime) {
     assert_eq!(rt; folder.keep(alloc, ".", b"x"), Err(KeepFault::Failed));
 }
 
-#[test]
-fn names_are_different_files(rt: HostRuntime) -> Result<(), Fail> {
-    let alloc = rt.alloc();
-    let mut folder = DiskFolder::new(&rt);
-    assert_eq!(rt; folder.keep(alloc, "one", b"1"), Ok(()));
-    assert_eq!(rt; folder.keep(alloc, "two", b"22"), Ok(()));
-    assert_eq!(rt;
-        folder.fetch(alloc, "one", 9).as_deref(),
-        Ok(b"1".as_slice())
-    );
-    assert_eq!(rt;
-        folder.fetch(alloc, "two", 9).as_deref(),
-        Ok(b"22".as_slice())
-    );
-    std::fs::remove_file(&rt, "one")?;
-    std::fs::remove_file(&rt, "two")?;
-    Ok(())
-}
-
 // A device that opens and takes nothing, and a file that nobody may write.
 #[test]
 fn what_takes_nothing_is_not_written(rt: HostRuntime) {
