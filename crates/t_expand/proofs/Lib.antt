@@ -7,6 +7,8 @@ pub mod KeepingLemmas
 pub mod KindLemmas
 pub mod MadeLemmas
 pub mod NamingLemmas
+pub mod OperationLemmas
+pub mod OperationTables
 pub mod QuotedLemmas
 pub mod RefusalLemmas
 pub mod ScopeLemmas

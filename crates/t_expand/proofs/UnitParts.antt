@@ -1,8 +1,10 @@
 -- What is known of the unit of forms that are made.
-use Rattle.std.proofs.Common.{◌≡◌, ℕ, List, ◌++◌, length, map, All, sym, ap, subst, ◌∙◌}
+use Rattle.std.proofs.Common.{◌≡◌, ◌≢◌, ℕ, List, ◌++◌, length, map, All, AllPairs, sym, ap, subst, ◌∙◌}
 use Rattle.t_base.specs.declared.basics.Span.{Span}
+use Rattle.t_base.specs.declared.shared_parts.OpInfo.{OpInfo}
 use Rattle.t_prim.specs.SharedParts.{IsWholeShared, HasLowerParts}
 use Rattle.t_reader.specs.Grammar.{Tree}
+use Rattle.t_objects.specs.Operations.{IsTableOf}
 use Rattle.t_core.specs.declared.forms.UnitCore.{UnitCore}
 use Rattle.t_core.specs.Whole.{pair_in, pair_of}
 use Rattle.t_forms.specs.Data.{datum_of}
@@ -27,6 +29,7 @@ use Rattle.t_expand.specs.Tallies.{AreTallied, bound_by, named_by, named_by_pair
 use Rattle.t_expand.specs.declared.driver_state.Expansion.{Expansion}
 use Rattle.unit_tops.specs.declared.tops.Top.{Top as CodeTop}
 use Rattle.t_expand.specs.declared.unit_all.FormList.{FormList}
+use Rattle.t_expand.proofs.OperationTables.{table_same}
 
 -- the tallies of the forms, of a unit of them
 record UnitTallied (unit : UnitCore) (next : ℕ) : Type 0 where
@@ -97,3 +100,15 @@ module _ (trees : List Tree) (names : List (List ℕ)) (start end : Expansion) (
     pairs = tallied.pairs;
     size = f.size.largest_is;
   }
+
+-- the operations are those of the table that is given
+pub unit_table : (trees : List Tree) (names : List (List ℕ)) (start end : Expansion) (tops : List CodeTop) (bytes : ℕ) (list : FormList) (unit : UnitCore)
+    (spans : List (List Span)) (table : List OpInfo) → IsText names trees → IsPrepared names trees start tops → Keeps start end
+    → ((r : Refusal) → RefusedIn (tops_of (map datum_of trees)) r → ⊥) → IsFinished bytes end.shared list unit spans → IsTableOf names trees table
+    → unit.shared.ops.items ≡ table
+unit_table trees names start end tops bytes list unit spans table text p keeps none f is =
+    let fine : AreFine names (tops_of (map datum_of trees)) =
+    subst (λ ns. AreFine ns (tops_of (map datum_of trees))) text.names_are (all_fine text.text.names (map datum_of trees) (trees_pure text.text trees text.whole text.held)).0 in
+    let apart : AllPairs (λ a b. a ≢ b) names = subst (λ ns. AllPairs (λ a b. a ≢ b) ns) text.names_are text.whole.names_distinct in
+    table_same names apart trees text.whole.names_begin.0 unit.shared.ops.items table (sym text.names_are ∙ text.whole.names_begin.1) fine none
+    (rw (f.ops, keeps.ops) (record { named = p.ops; defaults = p.defaults })) is
