@@ -17,6 +17,7 @@ pub mod SoFarLemmas
 pub mod SpellingLemmas
 pub mod StartLemmas
 pub mod StepLemmas
+pub mod TailLemmas
 pub mod TallyLemmas
 pub mod TopLemmas
 pub mod UnitLemmas

@@ -22,7 +22,6 @@ use crate::driver_state::{Expansion, NodeList};
 use crate::fault::SyntaxFault;
 use crate::spans::Spans;
 use crate::unit_all::FormList;
-use crate::unit_bytes::{bytes_kept, bytes_read};
 use core_size::largest;
 use std::alloc::Global;
 use t_base::{Memory, Names, Shared};
@@ -88,40 +87,26 @@ fn fault_of(refusal: Refusal) -> SyntaxFault
     }
 }
 
-/// The unit of forms that are made. Its strings fit into the bytes of the text's: where they don't, which can't arise, the answer is want
-/// of memory.
-fn finished(
-    expansion: Expansion,
-    list: FormList,
-    bytes: u64,
-) -> Result<(UnitCore, Vec<Spans>), Memory>
+/// The unit of forms that are made.
+fn finished(expansion: Expansion, list: FormList) -> Result<(UnitCore, Vec<Spans>), Memory>
     requires lower { HasLowerParts expansion.shared.pairs.items }
-    ensures { IfOk result (λ x. IsFinished bytes expansion.shared list x.0 x.1.items) }
+    ensures { IfOk result (λ x. IsFinished expansion.shared list x.0 x.1.items) }
 {
     let Expansion { alloc, shared, .. } = expansion;
     let FormList { forms, spans } = list;
     let size = largest(alloc, shared.pairs.as_slice(), forms.as_slice())?;
     let shared = Shared { size, ..shared };
-    let unit = UnitCore { shared, forms };
-    let kept = bytes_kept(unit.shared.strings.as_slice())?;
-    if kept <= bytes {
-        Ok((unit, spans))
-    } else {
-        Err(Memory)
-    }
+    Ok((UnitCore { shared, forms }, spans))
 }
 
 /// The core of a unit whose forms are prepared, or its first refusal.
-fn expand_prepared(
-    prepared: Prepared,
-    bytes: u64,
-) -> Result<(UnitCore, Vec<Spans>), SyntaxFault>
+fn expand_prepared(prepared: Prepared) -> Result<(UnitCore, Vec<Spans>), SyntaxFault>
     requires nothing { AreTallied [] prepared.expansion }
     ensures outcome { (names : List (List ℕ)) (trees : List Tree) → IsText names trees → IsPrepared names trees prepared.expansion prepared.tops.items → IsOutcome trees result }
     ensures bulk { IfOk result (λ x. bulk_of x.0 ≤ 2 ^ 31) }
     ensures lower { IfOk result (λ x. HasLowerParts x.0.shared.pairs.items) }
     ensures names { (names : List (List ℕ)) (trees : List Tree) → IsPrepared names trees prepared.expansion prepared.tops.items → IfOk result (λ x. x.0.shared.names ≡ names) }
-    ensures bytes { IfOk result (λ x. sum_by length x.0.shared.strings.items ≤ bytes) }
+    ensures bytes { (names : List (List ℕ)) (trees : List Tree) (t : IsText names trees) → IsPrepared names trees prepared.expansion prepared.tops.items → IfOk result (λ x. sum_by length x.0.shared.strings.items ≤ string_bytes t.text.nodes.items) }
     ensures table { (names : List (List ℕ)) (trees : List Tree) (table : List OpInfo) → IsText names trees → IsPrepared names trees prepared.expansion prepared.tops.items → IsTableOf names trees table → IfOk result (λ x. x.0.shared.ops.items ≡ table) }
 {
     let Prepared { expansion, tops } = prepared;
@@ -130,7 +115,7 @@ fn expand_prepared(
     match expansion.first {
         Some(refusal) => Err(fault_of(refusal)),
         None => {
-            let made = finished(expansion, list, bytes)?;
+            let made = finished(expansion, list)?;
             Ok(made)
         }
     }
@@ -163,9 +148,8 @@ pub fn expand_spans(
         nodes,
         forms,
     } = unit;
-    let bytes = bytes_read(nodes.as_slice())?;
     let prepared = prepare(alloc, names, nodes.as_slice(), forms.as_slice())?;
-    expand_prepared(prepared, bytes)
+    expand_prepared(prepared)
 }
 
 /// The core of a unit, or the first refusal of the unit: the first half of what `expand_spans` gives, under its conditions.

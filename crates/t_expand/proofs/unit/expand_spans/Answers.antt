@@ -9,7 +9,7 @@ use Rattle.t_expand.proofs.unit.expand_spans.Goals.{After-drop-nodes-2}
 is_prepared : (c : After-drop-nodes-2) (trees : List Tree) → HoldTrees c.args.unit.names c.args.unit.nodes.items c.args.unit.forms.items trees
     → IsPrepared c.args.unit.names trees c.in_ok-prepared.prepared.expansion c.in_ok-prepared.prepared.tops.items
 is_prepared c trees held =
-    let there : HoldTrees c.args.unit.names c.as_slice-2.result.now c.as_slice-3.result.now trees = rw (c.as_slice-2.ensures.value, c.as_slice-3.ensures.value) held in
+    let there : HoldTrees c.args.unit.names c.as_slice.result.now c.as_slice-2.result.now trees = rw (c.as_slice.ensures.value, c.as_slice-2.ensures.value) held in
     c.in_ok-prepared.ensures.prepared trees c.requires.whole.names_begin.0 there c.requires.whole.names_begin.1 c.requires.whole.names_distinct
 
 is_text : (c : After-drop-nodes-2) (trees : List Tree) → HoldTrees c.args.unit.names c.args.unit.nodes.items c.args.unit.forms.items trees
@@ -33,10 +33,13 @@ pub returns-clause-refused : goal.returns-clause-refused
 returns-clause-refused c trees r held first = outcome_refused trees c.expand_prepared.result r (outcome c trees held) first
 
 pub returns-clause-bytes : goal.returns-clause-bytes
+unfolding is_text
 returns-clause-bytes c =
-    outcome_bytes c.expand_prepared.result c.args.unit.names c.in_ok-bytes.bytes (string_bytes c.args.unit.nodes.items)
-    (c.expand_prepared.ensures.names c.args.unit.names c.requires.whole.data_ (is_prepared c c.requires.whole.data_ c.requires.whole.held))
-    c.expand_prepared.ensures.bytes (rw c.as_slice.ensures.value at c.in_ok-bytes.ensures)
+    let trees = c.requires.whole.data_ in
+    let held = c.requires.whole.held in
+    outcome_bytes c.expand_prepared.result c.args.unit.names (string_bytes c.args.unit.nodes.items)
+    (c.expand_prepared.ensures.names c.args.unit.names trees (is_prepared c trees held))
+    (c.expand_prepared.ensures.bytes c.args.unit.names trees (is_text c trees held) (is_prepared c trees held))
 
 pub returns-clause-table : goal.returns-clause-table
 returns-clause-table c =
