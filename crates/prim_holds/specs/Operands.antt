@@ -15,7 +15,7 @@ use Rattle.word_trees.specs.Trees.{Tree}
 use Rattle.frame_words.specs.Layouts.{Layout, ClosureOf, BuiltinOf, OperationOf, TextOf, SymbolOf, PairOf, fixed_address}
 use Rattle.frame_words.specs.ValueWords.{OBJECT, PAIR, NIL, TRUE, tagged, or_zero}
 use Rattle.select_rows.specs.Macros.{never}
-use Rattle.select_rows.specs.Codes.{Code, of_none, of_one, of_two, of_three, later}
+use Rattle.select_rows.specs.Codes.{Code, of_none, of_one, of_two, of_three}
 
 -- ---- what is named
 
@@ -65,10 +65,16 @@ code_at (of_two cost code) (a ∷ b ∷ []) t to rest = code a b t to rest
 code_at (of_three cost code) (a ∷ b ∷ d ∷ []) t to rest = code a b d t to rest
 code_at _ _ t to rest = never
 
+-- how many it takes
+abbrev pub operands_of : Code → ℕ
+operands_of (of_none cost code) = 0
+operands_of (of_one cost code) = 1
+operands_of (of_two cost code) = 2
+operands_of (of_three cost code) = 3
+
 -- its most moves
 abbrev pub cost_of : Code → ℕ
 cost_of (of_none cost code) = cost
 cost_of (of_one cost code) = cost
 cost_of (of_two cost code) = cost
 cost_of (of_three cost code) = cost
-cost_of later = 0
