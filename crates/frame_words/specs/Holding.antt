@@ -2,7 +2,7 @@
 use Rattle.std.specs.Prelude.{◌≡◌, ℕ, ◌+◌, ◌-◌, ◌*◌, ◌/◌, ◌^◌, ◌<◌, ◌≤◌, List, [], ◌∷◌, ◌++◌, length, replicate, slice_get, Option, Some, None, true, is_some}
 use Rattle.std.specs.List.{AllByRecursion, flat_map}
 use Rattle.std.specs.Option.{option_map_or}
-use Rattle.t_prim.specs.Values.{Val, PrintName, text_of}
+use Rattle.t_prim.specs.Values.{Val, Text, PrintName, text_of}
 use Rattle.word_ir.specs.Word.{Word, Number}
 use Rattle.word_ir.specs.Storage.{Regions, Sizes, HEAP_START}
 use Rattle.frame_ir.specs.Values.{Value, Closure, Object}
@@ -14,11 +14,12 @@ use Rattle.frame_words.specs.Contents.{Escapes, thing_contents, fixed_contents}
 
 -- ---- what the layout has
 
--- The words are few, nothing stands there twice, a symbol's print name stands there too, and no length is too large for a fixnum.
+-- The words are few, nothing stands there twice, a symbol's print name stands there too, and the bytes of strings are characters.
 pub record IsLaidOut (l : Layout) : Type 0 where
   pub few : front_words l + total_of (fixed_words l) l.fixed ≤ 2 ^ 25
   pub distinct : AreDistinct same_fixed (fixed_words l) l.fixed
   pub names : (n : ℕ) → is_some (fixed_place l (SymbolOf n)) ≡ true → is_some (fixed_place l (TextOf (PrintName n))) ≡ true
+  pub characters : (t : Text) → is_some (fixed_place l (TextOf t)) ≡ true → AllByRecursion (λ byte. byte < 128) (l.bytes t)
 
 -- ---- known values have words
 

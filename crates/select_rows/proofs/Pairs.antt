@@ -175,6 +175,7 @@ module _ (words : Words) (sizes : Sizes) (l : Layout) (e : Escapes) (t : ℕ) (s
     words = pair_words_stay sizes l e s v w c.storage c.next c.output h;
     top = refl;
     stack = refl;
+    inner = refl;
     stamps_of_stack = refl;
     live = refl;
     escapes = λ birth p found. escapes_stay first second birth p found;

@@ -80,6 +80,7 @@ put_keeps sizes l e t s start d bytes h =
       words = words_stay l s u g data_held.made;
       top = h.top;
       stack = h.stack;
+      inner = h.inner;
       stamps_of_stack = h.stamps_of_stack;
       live = h.live;
       escapes = h.escapes;
