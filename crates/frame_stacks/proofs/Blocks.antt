@@ -113,7 +113,7 @@ jump_performs words sizes l e g t s env c block target args vs h hs found count 
 
 -- ---- returns
 
-older_value : (words : Words) (sizes : Sizes) (l : Layout) (g : Ways) (t : ℕ) (s : State) (c : Core) (y : Word) (stamp : Stamp) (x : Operand) (v : Value) → HasValue words sizes l g t s c x v → HasValue words sizes l g t s (binding c (var t) y stamp) x v
+pub older_value : (words : Words) (sizes : Sizes) (l : Layout) (g : Ways) (t : ℕ) (s : State) (c : Core) (y : Word) (stamp : Stamp) (x : Operand) (v : Value) → HasValue words sizes l g t s c x v → HasValue words sizes l g t s (binding c (var t) y stamp) x v
 older_value words sizes l g t s c y stamp (operand.Var z) v h = record {
   word = h.word;
   stamp = h.stamp;

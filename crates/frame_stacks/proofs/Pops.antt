@@ -144,7 +144,7 @@ module _ (sizes : Sizes) (l : Layout) (g : Ways) (s : State) (birth : ℕ) (olde
 
 -- ---- the whole
 
-older_born : (words : Words) (sizes : Sizes) (l : Layout) (g : Ways) (s : State) (c : Core) (older : List ℕ) → sizes.stack % 4 ≡ 0 → length c.storage.stack ≡ sizes.stack / 4 → HoldsAll sizes l g s (stack_of c) older → birth_at (words_in words sizes) (at c 0 0 0 0).state (at c 0 0 0 0).marks (stack_address (frames_place sizes s.frames older)) ≡ Some (born_first g older)
+pub older_born : (words : Words) (sizes : Sizes) (l : Layout) (g : Ways) (s : State) (c : Core) (older : List ℕ) → sizes.stack % 4 ≡ 0 → length c.storage.stack ≡ sizes.stack / 4 → HoldsAll sizes l g s (stack_of c) older → birth_at (words_in words sizes) (at c 0 0 0 0).state (at c 0 0 0 0).marks (stack_address (frames_place sizes s.frames older)) ≡ Some (born_first g older)
 older_born words sizes l g s c [] whole long h = rw (eq-eqb (stack_address (sizes.stack / 4 - 0)) (STACK_START + sizes.stack) (omega (arith, whole))) refl
 older_born words sizes l g s c (b ∷ births) whole long h = born_at words sizes c (g.born b) (frames_place sizes s.frames (b ∷ births)) _ _ long h.3.back
 

@@ -53,10 +53,10 @@ data_of_more sizes l e s f storage next output h = record {
 
 -- ---- frames that were there
 
-get_more : (frames : List Frame) (f : Frame) (b : ℕ) → b < length frames → slice_get (frames ++ f ∷ []) b ≡ slice_get frames b
+pub get_more : (frames : List Frame) (f : Frame) (b : ℕ) → b < length frames → slice_get (frames ++ f ∷ []) b ≡ slice_get frames b
 get_more frames f b lt = let o = get_some frames b lt in get_left frames (f ∷ []) b o.0 o.1 ∙ sym o.1
 
-words_more : (frames : List Frame) (f : Frame) (births : List ℕ) → AllByRecursion (λ b. b < length frames) births → words_of_frames (frames ++ f ∷ []) births ≡ words_of_frames frames births
+pub words_more : (frames : List Frame) (f : Frame) (births : List ℕ) → AllByRecursion (λ b. b < length frames) births → words_of_frames (frames ++ f ∷ []) births ≡ words_of_frames frames births
 words_more frames f [] h = refl
 words_more frames f (b ∷ births) h = rw (get_more frames f b h.0, words_more frames f births h.1) refl
 
@@ -85,20 +85,20 @@ module _ (sizes : Sizes) (l : Layout) (g : Ways) (s : State) (f : Frame) (k rais
   abbrev ways : Ways
   ways = pushed_at g (length s.frames) step
 
-  born_stays : (b : ℕ) → b < length s.frames → ways.born b ≡ g.born b
+  pub born_stays : (b : ℕ) → b < length s.frames → ways.born b ≡ g.born b
   born_stays b lt = rw (ne_eqb b (length s.frames) (λ eq. absurd (omega (arith, lt, eq)))) refl
 
-  first_stays : (births : List ℕ) → AllByRecursion (λ b. b < length s.frames) births → born_first ways births ≡ born_first g births
+  pub first_stays : (births : List ℕ) → AllByRecursion (λ b. b < length s.frames) births → born_first ways births ≡ born_first g births
   first_stays [] h = refl
   first_stays (b ∷ births) h = born_stays b h.0
 
-  place_stays : (births : List ℕ) → AllByRecursion (λ b. b < length s.frames) births → frames_place sizes more.frames births ≡ frames_place sizes s.frames births
+  pub place_stays : (births : List ℕ) → AllByRecursion (λ b. b < length s.frames) births → frames_place sizes more.frames births ≡ frames_place sizes s.frames births
   place_stays births h = ap (λ n. sizes.stack / 4 - n) (words_more s.frames f births h)
 
-  was_live : (b : ℕ) → b < length s.frames → is_live more b ≡ true → is_live s b ≡ true
+  pub was_live : (b : ℕ) → b < length s.frames → is_live more b ≡ true → is_live s b ≡ true
   was_live b lt h = let other : (length s.frames == b) ≡ false = ne_eqb (length s.frames) b (λ eq. absurd (omega (arith, lt, eq))) in subst (λ q. (q || is_live s b) ≡ true) other h
 
-  address_stays : (b : ℕ) → b < length s.frames → frame_at sizes s b ≡ frame_at sizes more b
+  pub address_stays : (b : ℕ) → b < length s.frames → frame_at sizes s b ≡ frame_at sizes more b
   address_stays b lt =
       let other : (length s.frames == b) ≡ false = ne_eqb (length s.frames) b (λ eq. absurd (omega (arith, lt, eq))) in
       let from : live_from b (length s.frames ∷ s.live) ≡ live_from b s.live = rw other refl in
@@ -148,7 +148,7 @@ module _ (sizes : Sizes) (l : Layout) (g : Ways) (s : State) (f : Frame) (k rais
     frames_raised births lt.1 h.4,
   )
 
-live_below : (sizes : Sizes) (l : Layout) (g : Ways) (s : State) (k : Stack) (births : List ℕ) → HoldsAll sizes l g s k births → AllByRecursion (λ b. b < length s.frames) births
+pub live_below : (sizes : Sizes) (l : Layout) (g : Ways) (s : State) (k : Stack) (births : List ℕ) → HoldsAll sizes l g s k births → AllByRecursion (λ b. b < length s.frames) births
 live_below sizes l g s k [] h = tt
 live_below sizes l g s k (b ∷ births) h = (slice_get_within s.frames b h.0 h.1, live_below sizes l g s k births h.4)
 

@@ -212,7 +212,7 @@ module _ (l : Layout) (e : Escapes) (s : State) (k : ℕ) (p q : Val × Val) (th
         | inl eq ↦ (q, subst (λ x. slice_get repaired.store.pairs x ≡ Some q) (sym eq) this_pair, known_now (parts_of q) known)
         | inr d ↦ (g.0, get_set_other s.store.pairs k j q (λ eq. d (sym eq)) ∙ g.1, known_now (parts_of g.0) g.2)
       ]
-      fixed_at b (ClosureOf j) g = tt
+      fixed_at b (ClosureOf j) g = g
       fixed_at b (BuiltinOf j) g = tt
       fixed_at b (OperationOf j) g = tt
       fixed_at b (TextOf t) g = same_text s.store k q t (l.bytes t) g
@@ -402,7 +402,7 @@ module _ (l : Layout) (e : Escapes) (s : State) (k i : ℕ) (v : Val) (items : L
 
     fixed_after : (y : Fixed) → IsFixedThere l s y → IsFixedThere l refilled y
     fixed_after (PairOf j) g = (g.0, g.1, known_after (parts_of g.0) g.2)
-    fixed_after (ClosureOf j) g = tt
+    fixed_after (ClosureOf j) g = g
     fixed_after (BuiltinOf j) g = tt
     fixed_after (OperationOf j) g = tt
     fixed_after (TextOf t) g = same_text_vector s.store k (slice_set items i v) t (l.bytes t) g

@@ -187,7 +187,7 @@ module _ (l : Layout) (s u : State) (g : Adds l s u) (w : WordsStay l s u) (e : 
 
   pub fixed_stays : (y : Fixed) → IsFixedThere l s y → IsFixedThere l u y
   fixed_stays (PairOf k) m = (m.0, g.pairs k m.0 m.1, all_known_stay l s u w (parts_of m.0) m.2)
-  fixed_stays (ClosureOf b) m = tt
+  fixed_stays (ClosureOf b) m = g.closures b (record { code = b; captured = [] }) m
   fixed_stays (BuiltinOf p) m = tt
   fixed_stays (OperationOf o) m = tt
   fixed_stays (TextOf t) m = g.texts t (l.bytes t) m

@@ -2,23 +2,24 @@
 use Rattle.std.specs.Prelude.{◌≡◌, ℕ, ◌+◌, ◌-◌, ◌*◌, ◌/◌, ◌^◌, ◌<◌, ◌≤◌, List, [], ◌∷◌, ◌++◌, length, replicate, slice_get, Option, Some, None, true, is_some}
 use Rattle.std.specs.List.{AllByRecursion, flat_map}
 use Rattle.std.specs.Option.{option_map_or}
-use Rattle.t_prim.specs.Values.{Val, PrintName, text_of}
+use Rattle.t_prim.specs.Values.{Val, Text, PrintName, text_of}
 use Rattle.word_ir.specs.Word.{Word, Number}
 use Rattle.word_ir.specs.Storage.{Regions, Sizes, HEAP_START}
 use Rattle.frame_ir.specs.Values.{Value, Closure, Object}
 use Rattle.frame_ir.specs.States.{State, Thing, APair, AVector, AClosure, AnObject, AnEscape, ACell, thing_words}
 use Rattle.frame_words.specs.Segments.{AreDistinct, total_of}
-use Rattle.frame_words.specs.Layouts.{Layout, Fixed, TextOf, SymbolOf, PairOf, TemplateOf, same_fixed, fixed_words, front_words, GLOBALS, fixed_place}
+use Rattle.frame_words.specs.Layouts.{Layout, Fixed, ClosureOf, TextOf, SymbolOf, PairOf, TemplateOf, same_fixed, fixed_words, front_words, GLOBALS, fixed_place}
 use Rattle.frame_words.specs.ValueWords.{same_thing, heap_place, word_for, captured_for, UNBOUND, or_zero}
 use Rattle.frame_words.specs.Contents.{Escapes, thing_contents, fixed_contents}
 
 -- ---- what the layout has
 
--- The words are few, nothing stands there twice, a symbol's print name stands there too, and no length is too large for a fixnum.
+-- The words are few, nothing stands there twice, a symbol's print name stands there too, and the bytes of strings are characters.
 pub record IsLaidOut (l : Layout) : Type 0 where
   pub few : front_words l + total_of (fixed_words l) l.fixed ≤ 2 ^ 25
   pub distinct : AreDistinct same_fixed (fixed_words l) l.fixed
   pub names : (n : ℕ) → is_some (fixed_place l (SymbolOf n)) ≡ true → is_some (fixed_place l (TextOf (PrintName n))) ≡ true
+  pub characters : (t : Text) → is_some (fixed_place l (TextOf t)) ≡ true → AllByRecursion (λ byte. byte < 128) (l.bytes t)
 
 -- ---- known values have words
 
@@ -41,10 +42,11 @@ IsMade l s (AnObject i) =
 IsMade l s (AnEscape b) = b < length s.frames
 IsMade l s (ACell k) = (v : Val) × (slice_get s.cells k ≡ Some v) × AreKnown l s (v ∷ [])
 
--- of what stands in static words only a pair and a string are in the state
+-- of what stands in static words a pair, a string and the closure of a block are in the state
 abbrev pub IsFixedThere : Layout → State → Fixed → Type 0
 IsFixedThere l s (PairOf k) = (p : Val × Val) × (slice_get s.store.pairs k ≡ Some p) × AreKnown l s (parts_of p)
 IsFixedThere l s (TextOf t) = text_of s.store t ≡ Some (l.bytes t)
+IsFixedThere l s (ClosureOf block) = slice_get s.closures block ≡ Some (record { code = block; captured = [] })
 IsFixedThere l s _ = Unit {0}
 
 -- ---- the whole

@@ -37,7 +37,7 @@ use Rattle.select_rows.proofs.Keeping.{may_read, may_reach, binds_one, binds_the
 use Rattle.select_rows.proofs.Checks.{fixnum_performs, fixnum_held, index_performs}
 use Rattle.select_rows.proofs.Results.{performs}
 use Rattle.select_rows.proofs.DataRows.{vector_performs, element_address, kept_at}
-use Rattle.select_rows.proofs.Parts.{stored_word, stack_stays}
+use Rattle.select_rows.proofs.Parts.{stored_word, stack_stays, heap_apart}
 use Rattle.select_rows.proofs.Puts.{arrive_changed}
 
 module _ (words : Words) (sizes : Sizes) (l : Layout) (e : Escapes) (t : ℕ) (s : State) (c : Core) (to : Var) (rest : Tree) (h : HoldsData sizes l e s c.storage c.next c.output) where
@@ -55,6 +55,7 @@ module _ (words : Words) (sizes : Sizes) (l : Layout) (e : Escapes) (t : ℕ) (s
         words = refilled_words l e s k i v items there;
         top = keeps.top;
         stack = stack_stays d.storage (n + 4 * i + 6) (Number m) outside ∙ keeps.stack;
+        inner = heap_apart d.storage (n + 4 * i + 6) (o.place + suc (suc i)) (Number m) address below ∙ keeps.inner;
         stamps_of_stack = stack_stays d.longs (n + 4 * i + 6) stamp outside ∙ keeps.stamps_of_stack;
         live = rw (outside_stack d.storage (n + 4 * i + 6) outside) keeps.live;
         escapes = λ birth p found.

@@ -15,7 +15,7 @@ use Rattle.word_ir.specs.Stamps.{Stamp}
 use Rattle.frame_ir.specs.States.{State}
 use Rattle.word_trees.specs.Cores.{Core, word_in, binding, storing}
 use Rattle.word_trees.specs.Leads.{MayReach, MayRead}
-use Rattle.frame_words.specs.Layouts.{Layout, PASS}
+use Rattle.frame_words.specs.Layouts.{Layout, INNER, PASS}
 use Rattle.frame_words.specs.Contents.{Escapes, fixed_contents}
 use Rattle.frame_words.specs.Holding.{HoldsData}
 use Rattle.frame_words.specs.Growing.{WordsStay}
@@ -67,6 +67,7 @@ module _ (sizes : Sizes) (l : Layout) (e : Escapes) (t : ℕ) (s : State) where
     words = words_same l s;
     top = refl;
     stack = refl;
+    inner = refl;
     stamps_of_stack = refl;
     live = refl;
     escapes = λ birth p found. refl;
@@ -81,6 +82,7 @@ module _ (sizes : Sizes) (l : Layout) (e : Escapes) (t : ℕ) (s : State) where
     words = h.words;
     top = b.top ∙ h.top;
     stack = ap (λ m. m.stack) b.storage ∙ h.stack;
+    inner = ap (λ m. long_at m (static_at INNER)) b.storage ∙ h.inner;
     stamps_of_stack = ap (λ m. m.stack) b.longs ∙ h.stamps_of_stack;
     live = b.live ∙ h.live;
     escapes = λ birth p found. ap (λ m. slice_get m.heap (p + 1)) b.longs ∙ h.escapes birth p found;
@@ -180,12 +182,19 @@ module _ (sizes : Sizes) (l : Layout) (e : Escapes) (s : State) (storage : Regio
     output_is = h.output_is;
   }
 
+-- the word of the innermost escape is another one
+pass_apart : (storage : Regions Word) (x : Word) → long_at (with_long storage (static_at PASS) x) (static_at INNER) ≡ long_at storage (static_at INNER)
+pass_apart storage x =
+    static_long (with_long storage (static_at PASS) x) 0 (omega arith) ∙ get_set_other storage.statics 1 0 x (λ eq. absurd (omega (arith, eq)))
+    ∙ sym (static_long storage 0 (omega arith))
+
 pub keeps_pass : (sizes : Sizes) (l : Layout) (e : Escapes) (t : ℕ) (s : State) (c d : Core) (n : ℕ) → Keeps sizes l e t s s c d → Keeps sizes l e t s s c (passing d n)
 keeps_pass sizes l e t s c d n h = record {
   data_held = pass_holds sizes l e s d.storage d.next d.output h.data_held (Number n);
   words = h.words;
   top = h.top;
   stack = h.stack;
+  inner = pass_apart d.storage (Number n) ∙ h.inner;
   stamps_of_stack = h.stamps_of_stack;
   live = h.live;
   escapes = h.escapes;

@@ -11,21 +11,21 @@ use Rattle.word_ir.specs.declared.operands.Operand.TheVariants as operand
 use Rattle.word_ir.specs.declared.words.WordOp.TheVariants as op
 use Rattle.word_ir.specs.declared.words.Words.{Words}
 use Rattle.word_ir.specs.Word.{Word, Number, moved}
-use Rattle.word_ir.specs.Storage.{Sizes, Regions, HEAP_START, STATICS_START, STACK_START, with_long}
+use Rattle.word_ir.specs.Storage.{Sizes, Regions, HEAP_START, STATICS_START, STACK_START, static_at, long_at, with_long}
 use Rattle.word_ir.specs.Step.{words_in}
 use Rattle.word_ir.specs.Stamps.{Stamp}
 use Rattle.frame_ir.specs.States.{State, APair, AnEscape, thing_words}
 use Rattle.word_trees.specs.Trees.{Tree, Do}
 use Rattle.word_trees.specs.Cores.{Core, word_in, stamp_in, storing}
 use Rattle.word_trees.proofs.Performing.{store_performs, moves_performs}
-use Rattle.frame_words.specs.Layouts.{Layout, PairOf, front_words}
+use Rattle.frame_words.specs.Layouts.{Layout, PairOf, INNER, front_words}
 use Rattle.frame_words.specs.ValueWords.{same_thing, heap_place, word_for, or_zero}
 use Rattle.frame_words.specs.Contents.{Escapes, pair_contents}
 use Rattle.frame_words.specs.Holding.{AreKnown, parts_of, HoldsData}
 use Rattle.frame_words.specs.Origins.{OnHeap, InStatics, IsRead, IsPairRead}
 use Rattle.frame_words.proofs.Segments.{apart}
 use Rattle.frame_words.proofs.Sizes.{thing_sound}
-use Rattle.frame_words.proofs.Reading.{outside_stack, heap_within, fixed_within}
+use Rattle.frame_words.proofs.Reading.{static_long, outside_stack, heap_within, fixed_within}
 use Rattle.frame_words.proofs.Values.{either, pair_is, moved_back}
 use Rattle.frame_words.proofs.Changing.{with_heap, with_statics, repaired, repaired_words, repaired_word, heap_pair_changes, fixed_pair_changes}
 use Rattle.select_rows.specs.Macros.{word}
@@ -52,6 +52,15 @@ if_stack false m x y h k = k
 pub stack_stays : {X : Type 0} (m : Regions X) (address : ℕ) (x : X) → address < STACK_START → (with_long m address x).stack ≡ m.stack
 stack_stays m address x lt = if_stack (nat_lt address HEAP_START) m _ _ refl (rw (lt-ltb address STACK_START lt) refl)
 
+-- nor the word of the innermost escape
+pub heap_apart : (m : Regions Word) (address k : ℕ) (x : Word) → address ≡ HEAP_START + 4 * k → k < 2 ^ 26 → long_at (with_long m address x) (static_at INNER) ≡ long_at m (static_at INNER)
+heap_apart m address k x at lt = ap (λ y. long_at y (static_at INNER)) (ap (λ a. with_long m a x) at ∙ with_heap m k x lt)
+
+statics_apart : (m : Regions Word) (address k : ℕ) (x : Word) → address ≡ STATICS_START + 4 * k → k < 2 ^ 26 → 0 < k → long_at (with_long m address x) (static_at INNER) ≡ long_at m (static_at INNER)
+statics_apart m address k x at lt some =
+    ap (λ y. long_at y (static_at INNER)) (ap (λ a. with_long m a x) at ∙ with_statics m k x lt)
+    ∙ (static_long (record m { statics = slice_set m.statics k x }) 0 (omega arith) ∙ (get_set_other m.statics k 0 x (λ eq. absurd (omega (arith, eq, some))) ∙ sym (static_long m 0 (omega arith))))
+
 module _ (words : Words) (sizes : Sizes) (l : Layout) (e : Escapes) (t : ℕ) (s : State) (c : Core) (to : Var) (rest : Tree) (h : HoldsData sizes l e s c.storage c.next c.output) where
   -- the stamps of frames in escapes stay
   stamps_stay : (k n i : ℕ) (stamp : Stamp) → i < 2 → OnHeap s 3 (APair k) n ⊎ InStatics l 3 (PairOf k) n → (birth p : ℕ) → heap_place s (AnEscape birth) ≡ Some p → slice_get (with_long c.longs (n - 3 + 4 * i) stamp).heap (p + 1) ≡ slice_get c.longs.heap (p + 1)
@@ -72,6 +81,19 @@ module _ (words : Words) (sizes : Sizes) (l : Layout) (e : Escapes) (t : ℕ) (s
       let below : front_words l + (o.place + i) < 2 ^ 26 = omega (arith, within, lt) in
       ap (λ m. slice_get m.heap (p + 1)) (ap (λ a. with_long c.longs a stamp) address ∙ with_statics c.longs (front_words l + (o.place + i)) stamp below)
 
+  -- and so does the word of the innermost one
+  inner_stays : (k n i : ℕ) (x : Word) → i < 2 → OnHeap s 3 (APair k) n ⊎ InStatics l 3 (PairOf k) n → long_at (with_long c.storage (n - 3 + 4 * i) x) (static_at INNER) ≡ long_at c.storage (static_at INNER)
+  inner_stays k n i x lt (inl o) =
+      let within = heap_within sizes l e s c.storage c.next c.output h (APair k) o.place o.found in
+      let room : 4 * s.store.heap ≤ sizes.heap = h.room in
+      let small : sizes.heap ≤ 2 ^ 28 = h.small in
+      let address : n - 3 + 4 * i ≡ HEAP_START + 4 * (o.place + i) = omega (arith, o.word) in
+      heap_apart c.storage (n - 3 + 4 * i) (o.place + i) x address (omega (arith, within, lt, room, small))
+  inner_stays k n i x lt (inr o) =
+      let within = fixed_within sizes l e s c.storage c.next c.output h (PairOf k) o.place o.found in
+      let address : n - 3 + 4 * i ≡ STATICS_START + 4 * (front_words l + (o.place + i)) = omega (arith, o.word) in
+      statics_apart c.storage (n - 3 + 4 * i) (front_words l + (o.place + i)) x address (omega (arith, within, lt)) (omega arith)
+
   data_changes : (k n i m : ℕ) (p q : Val × Val) (there : slice_get s.store.pairs k ≡ Some p) → pair_contents l s (Some q) ≡ slice_set (pair_contents l s (Some p)) i (Number m) → AreKnown l s (parts_of q) → i < 2 → OnHeap s 3 (APair k) n ⊎ InStatics l 3 (PairOf k) n → HoldsData sizes l e (repaired l e s k p q there) (with_long c.storage (n - 3 + 4 * i) (Number m)) c.next c.output
   data_changes k n i m p q there part known lt (inl o) = heap_pair_changes l e s k p q there i m part sizes c.storage c.next c.output h n known lt o
   data_changes k n i m p q there part known lt (inr o) = fixed_pair_changes l e s k p q there i m part sizes c.storage c.next c.output h n known lt o
@@ -82,6 +104,7 @@ module _ (words : Words) (sizes : Sizes) (l : Layout) (e : Escapes) (t : ℕ) (s
     words = repaired_words l e s k p q there;
     top = refl;
     stack = stack_stays c.storage address (Number m) outside;
+    inner = ap (λ a. long_at (with_long c.storage a (Number m)) (static_at INNER)) at ∙ inner_stays k n i (Number m) lt origin;
     stamps_of_stack = stack_stays c.longs address stamp outside;
     live = rw (outside_stack c.storage address outside) refl;
     escapes = λ birth x found. ap (λ a. slice_get (with_long c.longs a stamp).heap (x + 1)) at ∙ stamps_stay k n i stamp lt origin birth x found;

@@ -8,13 +8,13 @@ use Rattle.word_ir.specs.declared.operands.Operand.{Operand}
 use Rattle.word_ir.specs.declared.operands.Operand.TheVariants as operand
 use Rattle.word_ir.specs.declared.words.Words.{Words}
 use Rattle.word_ir.specs.Word.{Number}
-use Rattle.word_ir.specs.Storage.{Sizes}
+use Rattle.word_ir.specs.Storage.{Sizes, static_at, long_at}
 use Rattle.word_ir.specs.State.{Own, kept}
 use Rattle.word_ir.specs.Stamps.{Stamp, Stamped}
 use Rattle.frame_ir.specs.States.{State, AnEscape, with_store}
 use Rattle.word_trees.specs.Trees.{Tree, Spells}
 use Rattle.word_trees.specs.Cores.{Core, at, ended, word_in, binding, heap_left}
-use Rattle.frame_words.specs.Layouts.{Layout}
+use Rattle.frame_words.specs.Layouts.{Layout, INNER}
 use Rattle.frame_words.specs.ValueWords.{word_for, heap_place}
 use Rattle.frame_words.specs.Contents.{Escapes}
 use Rattle.frame_words.specs.Holding.{HoldsData}
@@ -36,13 +36,14 @@ pub record Has (l : Layout) (s : State) (t : ℕ) (c : Core) (x : Operand) (v : 
 
 -- ---- what is kept
 
--- The data are those of the second state, words of values are as before, and so are the stack, its stamps, the stamps of frames in escapes, and the
--- variables below t.
+-- The data are those of the second state, words of values are as before, and so are the stack, its stamps, the word of the innermost escape, the stamps of
+-- frames in escapes, and the variables below t.
 pub record Keeps (sizes : Sizes) (l : Layout) (e : Escapes) (t : ℕ) (s u : State) (c d : Core) : Type 0 where
   pub data_held : HoldsData sizes l e u d.storage d.next d.output
   pub words : WordsStay l s u
   pub top : d.top ≡ c.top
   pub stack : d.storage.stack ≡ c.storage.stack
+  pub inner : long_at d.storage (static_at INNER) ≡ long_at c.storage (static_at INNER)
   pub stamps_of_stack : d.longs.stack ≡ c.longs.stack
   pub live : d.live ≡ c.live
   pub escapes : (birth p : ℕ) → heap_place s (AnEscape birth) ≡ Some p → slice_get d.longs.heap (p + 1) ≡ slice_get c.longs.heap (p + 1)
