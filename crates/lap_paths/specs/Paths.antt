@@ -1,5 +1,5 @@
 -- Ways of the run of items.
-use Rattle.std.specs.Prelude.{◌≡◌, ◌≢◌, ℕ, ◌+◌, ◌≤◌, List, [], ◌∷◌, slice_get, Some, None, Ok}
+use Rattle.std.specs.Prelude.{◌≡◌, ◌≢◌, ℕ, ◌+◌, ◌≤◌, ◌<◌, List, [], ◌∷◌, slice_get, Some, None, Ok}
 use Rattle.program_runs.specs.Follows.{after}
 use Rattle.m68020_code.specs.declared.instr.Ea.{Ea}
 use Rattle.m68020_step.specs.Operand.{with_pc, data_at, address_at, long_operand}
@@ -74,8 +74,8 @@ Reads t e long = (pc : ℕ) → long_operand t.storage (with_pc t.registers pc) 
 -- Storage and registers are as before, but for one data register, A3, the condition codes and the program counter.
 pub record Beside (d : ℕ) (t u : State) : Type 0 where
   pub storage : u.storage ≡ t.storage
-  pub data : (i : ℕ) → i ≢ d → data_at u.registers i ≡ data_at t.registers i
-  pub address : (i : ℕ) → i ≢ 3 → address_at u.registers i ≡ address_at t.registers i
+  pub numbers : (i : ℕ) → i < 8 → i ≢ d → data_at u.registers i ≡ data_at t.registers i
+  pub addresses : (i : ℕ) → i ≢ 3 → address_at u.registers i ≡ address_at t.registers i
 
 -- the number of no data register
 abbrev pub none : ℕ
