@@ -1,0 +1,4 @@
+pub mod Numbers
+pub mod Arriving
+pub mod Access
+pub mod Moves
