@@ -2,3 +2,5 @@ pub mod Numbers
 pub mod Arriving
 pub mod Access
 pub mod Moves
+pub mod Alu
+pub mod Stack

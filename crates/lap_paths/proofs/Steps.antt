@@ -112,10 +112,10 @@ act a n t item i items r e Q s instr does on pcs up rest =
     act_at a n t item i items (r pc) e Q s (instr (a.assembled.widths k) (place_at a k)) (does (place_at a k) pc) on (up pc)
     (λ range bytes. rest pc (record { place = k + 1; pc = pcs pc; sits = s.sits.1; range = range; bytes = bytes }))
 
--- ---- branches
+-- ---- branches: one that is taken ends the way
 
 pub branch : (a : Assembly) (n : ℕ) (t : State) (c : Cond) (label : ℕ) (items : List Item) (Q : State → Type 0) → Stands a t (Branch c label ∷ items)
-    → (holds c t.registers.flags ≡ true → (pc : ℕ) → IsAt a (at_pc t pc) label → Path a n (at_pc t pc) Q)
+    → (holds c t.registers.flags ≡ true → (pc : ℕ) → IsAt a (at_pc t pc) label → Path a 0 (at_pc t pc) Q)
     → (holds c t.registers.flags ≡ false → (pc : ℕ) → Stands a (at_pc t pc) items → Path a n (at_pc t pc) Q)
     → Path a (suc n) t Q
 branch a n t c label items Q s taken on = by_test (holds c t.registers.flags) refl
@@ -130,8 +130,9 @@ branch a n t c label items Q s taken on = by_test (holds c t.registers.flags) re
     does = branch_goes a.items a.bytes a.labels a.can a.assembled t.storage (with_pc t.registers (place_at a (k + 1))) k there.0 label c s.sits.0 there.1
     by_test : (b : Bool) → holds c t.registers.flags ≡ b → Path a (suc n) t Q
     by_test true e =
-        act_at a n t (Branch c label) _ items (with_pc t.registers (place_at a there.0)) Nothing Q s refl (does ∙ ap (λ x. next (goes_if x) Nothing) e) refl (omega arith)
-        (λ range bytes. taken e (place_at a there.0) (record { place = there.0; labelled = there.1; pc = refl; range = range; bytes = bytes }))
+        widen a 1 (suc n) t Q (omega arith) (omega arith)
+        (act_at a 0 t (Branch c label) _ items (with_pc t.registers (place_at a there.0)) Nothing Q s refl (does ∙ ap (λ x. next (goes_if x) Nothing) e) refl (omega arith)
+        (λ range bytes. taken e (place_at a there.0) (record { place = there.0; labelled = there.1; pc = refl; range = range; bytes = bytes })))
     by_test false e =
         act_at a n t (Branch c label) _ items (with_pc t.registers (place_at a (k + 1))) Nothing Q s refl (does ∙ ap (λ x. next (goes_if x) Nothing) e) refl (omega arith)
         (λ range bytes. on e (place_at a (k + 1)) (record { place = k + 1; pc = refl; sits = s.sits.1; range = range; bytes = bytes }))
