@@ -4,3 +4,4 @@ pub mod Access
 pub mod Moves
 pub mod Alu
 pub mod Stack
+pub mod Sums
