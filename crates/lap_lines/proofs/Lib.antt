@@ -5,3 +5,4 @@ pub mod Moves
 pub mod Alu
 pub mod Stack
 pub mod Sums
+pub mod Quotients

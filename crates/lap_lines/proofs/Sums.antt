@@ -89,7 +89,7 @@ module _ (a : Assembly) (m : Setting) (s : WordState) (housed : IsHoused m) (pla
   settles n t (Abs at) j k here Q is first reads stands rest = widen a (suc n) (suc (suc n)) t Q (omega arith) (omega arith) (rest t (is, first, reads, stands))
   settles n t (Imm v) j k here Q is first reads stands rest = widen a (suc n) (suc (suc n)) t Q (omega arith) (omega arith) (rest t (is, first, reads, stands))
 
-  settled_there : (t : State) (x : Operand) (j k n : ℕ) (here items : List Item) (e : Effect) → Represents m a.labels s t → IsUsable m x → data_at t.registers 7 ≡ j → word_of m s x ≡ Some (Number k) → Stands a t (settled_items m.homes x ++ here)
+  pub settled_there : (t : State) (x : Operand) (j k n : ℕ) (here items : List Item) (e : Effect) → Represents m a.labels s t → IsUsable m x → data_at t.registers 7 ≡ j → word_of m s x ≡ Some (Number k) → Stands a t (settled_items m.homes x ++ here)
       → ((u : State) → Represents m a.labels s u × (data_at u.registers 7 ≡ j) × Reads u (settled (source_of m.homes x)) k × Stands a u here → Arrives a m s u items (suc n) e) → Arrives a m s t items (suc (suc (suc (suc n)))) e
   settled_there t x j k n here items e is usable first word stands rest =
       sourced t x j k (suc n) (settling (source_of m.homes x) ++ here) items e is usable first word (subst (Stands a t) (append_assoc (source_items x) (settling (source_of m.homes x)) here) stands)
@@ -97,7 +97,7 @@ module _ (a : Assembly) (m : Setting) (s : WordState) (housed : IsHoused m) (pla
       (λ Q go. settles n u (source_of m.homes x) j k here Q p.0 p.1 p.2 p.3 go) rest)
 
   -- a number goes from a register into its home
-  number_bound : (u : State) (items : List Item) (to : Var) (d v n : ℕ) → HasHome m to → Represents m a.labels s u → data_at u.registers d ≡ v → v ≡ n → Stands a u (put_into (D d) (home_of m.homes to) ∷ items) → has_room s (keeper_of m.homes to) ≡ true
+  pub number_bound : (u : State) (items : List Item) (to : Var) (d v n : ℕ) → HasHome m to → Represents m a.labels s u → data_at u.registers d ≡ v → v ≡ n → Stands a u (put_into (D d) (home_of m.homes to) ∷ items) → has_room s (keeper_of m.homes to) ≡ true
       → Path a 1 u (Behind a m (changed s (Binds (keeper_of m.homes to) (Number n))) items)
   number_bound u items to d v n has is there same stands room =
       bind_goes a m s u items (D d) to (Number n) housed place has (omega (arith, stands.range.registers.d d, there, same)) is stands (reads_data u d n (there ∙ same)) room
@@ -130,7 +130,7 @@ module _ (a : Assembly) (m : Setting) (s : WordState) (housed : IsHoused m) (pla
       by false e = run false e (Opened a m s over) (λ h u pc at_u at. opened a m s housed place u over pc at_u at) (λ h u at_u there stands2. absurd (cc))
 
   -- a result that fits, in D7
-  plain_run : (t : State) (i : Instr) (v : ℕ) (f : Flags) (to : Var) (items : List Item) → Represents m a.labels s t → HasHome m to
+  pub plain_run : (t : State) (i : Instr) (v : ℕ) (f : Flags) (to : Var) (items : List Item) → Represents m a.labels s t → HasHome m to
       → ((at pc : ℕ) → executed t.storage at (with_pc t.registers pc) i ≡ next (with_flags (with_data (with_pc t.registers pc) 7 v) f) Nothing)
       → Stands a t (Plain i ∷ put_into (D 7) (home_of m.homes to) ∷ items) → Arrives a m s t items 2 (binds m s to (Number v))
   plain_run t i v f to items is has does stands =
@@ -141,7 +141,7 @@ module _ (a : Assembly) (m : Setting) (s : WordState) (housed : IsHoused m) (pla
   -- ---- operations
 
   -- the first operand is loaded, and the second has a number
-  two_numbers : (t : State) (to : Var) (x y : Operand) (over n : ℕ) (k : Arith) (here items : List Item) → Represents m a.labels s t → IsUsable m x → Stands a t (load_items m.homes x 7 ++ here)
+  pub two_numbers : (t : State) (to : Var) (x y : Operand) (over n : ℕ) (k : Arith) (here items : List Item) → Represents m a.labels s t → IsUsable m x → Stands a t (load_items m.homes x 7 ++ here)
       → ((u : State) (i j : ℕ) → i < 2 ^ 32 → word_of m s y ≡ Some (Number j) → Represents m a.labels s u → data_at u.registers 7 ≡ i → Stands a u here → Arrives a m s u items n (bind_result m s to over (computed k i j)))
       → Arrives a m s t items (suc (suc (suc n))) (with_number m s x (λ i. with_number m s y (λ j. bind_result m s to over (computed k i j))))
   two_numbers t to x y over n k here items is usable stands rest =
@@ -151,7 +151,7 @@ module _ (a : Assembly) (m : Setting) (s : WordState) (housed : IsHoused m) (pla
       (λ u p. rest u i j (omega (arith, p.3.range.registers.d 7, p.2)) second p.0 p.2 p.3)))
 
   -- the items of an operation by their parts
-  parted : (t : State) (to : Var) (k : Arith) (x y : Operand) (over : ℕ) (items : List Item) → Stands a t (op_items m.homes (op.Arith to k x y over) ++ items)
+  pub parted : (t : State) (to : Var) (k : Arith) (x y : Operand) (over : ℕ) (items : List Item) → Stands a t (op_items m.homes (op.Arith to k x y over) ++ items)
       → Stands a t (load_items m.homes x 7 ++ (computing_items m.homes k y over ++ put_into (D (result_in k)) (home_of m.homes to) ∷ items))
   unfolding op_items arith_items
   parted t to k x y over items stands =
