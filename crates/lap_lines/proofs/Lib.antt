@@ -6,3 +6,4 @@ pub mod Alu
 pub mod Stack
 pub mod Sums
 pub mod Quotients
+pub mod Lines
