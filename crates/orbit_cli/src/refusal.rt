@@ -46,7 +46,7 @@ pub enum Refusal {
     Unbuilt,
     /// The image of its text could not be kept.
     Unkept,
-    /// There was no memory.
+    /// There was no memory, or this stands for what can't arise on a text or an image.
     Memory,
 }
 
