@@ -33,7 +33,8 @@ const STATICS: usize = 8000;
 /// The core of a text of at most 2^20 bytes.
 ///
 /// `Err(Read)` is the first fault of the text. `Err(Syntax)` is the first refusal of the forms of a text that has no fault.
-/// `Err(Memory)` comes only where memory ran out. The other errors never come.
+/// `Err(Memory)` is the want of memory, and would stand for what can't arise on a text; no clause says when it comes. The other errors
+/// never come.
 pub fn read_core(alloc: Global, text: &[u8]) -> Result<UnitCore, BuildFault>
     requires { length text.now ≤ 2 ^ 20 }
     ensures core { IfOk result (λ unit. HasCore text.now unit) }
@@ -74,7 +75,7 @@ fn image_of(alloc: Global, unit: &UnitCore) -> Result<Vec<u8>, Memory>
 /// `Err(Read)` is the first fault of the text. `Err(Syntax)` is the first refusal of the forms of a text that has no fault.
 /// `Err(Limit)` is the first limit that the unit of such forms is over. `Err(Unbuilt)` comes only for a text within the limits
 /// whose unit has a defining form, or a node that is neither a fixnum nor a sum, and `Ok` only for one whose unit has none.
-/// `Err(Memory)` comes only where memory ran out.
+/// `Err(Memory)` is the want of memory, and would stand for what can't arise on a text; no clause says when it comes.
 pub fn compile(alloc: Global, text: &[u8]) -> Result<Vec<u8>, BuildFault>
     requires { length text.now ≤ 2 ^ 20 }
     ensures faithful { IfOk result (λ bytes. Faithful text.now bytes.items) }

@@ -23,7 +23,7 @@ pub enum BuildFault {
     /// Nothing is refused, but the unit has a defining form, or a node that is neither a fixnum nor a sum.
     #[error("not built yet")]
     Unbuilt,
-    /// There was no memory.
+    /// There was no memory, or this stands for what can't arise on a text.
     #[error("out of memory")]
     Memory,
 }

@@ -2,3 +2,4 @@ mod Numbers
 mod Outcomes
 mod Reports
 mod Rows
+mod Served

@@ -22,7 +22,7 @@ use Rattle.orbit_cli.specs.declared.status.Status.TheVariants as status
 use Rattle.orbit_cli.specs.declared.refusal.Refusal.{Refusal}
 use Rattle.orbit_cli.specs.declared.refusal.Refusal.TheVariants as refusal
 use Rattle.orbit_cli.specs.Lines.{counts_line}
-use Rattle.orbit_cli.specs.Answer.{Answer, answer, answer_on, listing_answer, most_nodes, counts_answer, printed, end_status, full_status}
+use Rattle.orbit_cli.specs.Answer.{Answer, answer, answer_on, listing_answer, most_nodes, counts_answer, printed, end_status}
 use Rattle.orbit_cli.specs.Changes.{Change, change, IsIdle, Says, IsUnchanged, Keeps}
 use Rattle.orbit_cli.specs.Command.{AreSizes}
 use Rattle.orbit_cli.specs.Outcome.{IsCompiled, CompileOutcome, OfCore, CheckOutcome, IsAnswered, IsUnwritten, IsRun, RunOutcome, ListOutcome, IsKeptAndRun, GoOutcome}

@@ -1,6 +1,5 @@
 -- What is put of a run, where a put fails and where none does.
 use Rattle.std.proofs.Common.{◌≡◌, ℕ, ◌+◌, ◌-◌, ◌≤◌, ◌<◌, List, [], ◌++◌, Option, Some, None, Result, Ok, Err, sym, ap, ◌∙◌, subst, inl, inr, ⊎_elim, arith, append_assoc, append-nil}
-use Rattle.std.specs.Prelude.{OnOk, OnErr}
 use Rattle.t_base.specs.declared.faults.Face.{Face}
 use Rattle.t_ports.specs.declared.ports.Sink.{Ghosts as SinkOf}
 use Rattle.t_ports.specs.Causes.{Rose}
@@ -16,7 +15,7 @@ use Rattle.orbit_cli.specs.declared.status.Status.{Status}
 use Rattle.orbit_cli.specs.declared.status.Status.TheVariants as status
 use Rattle.orbit_cli.specs.Lines.{shown_text, value_line}
 use Rattle.orbit_cli.specs.Answer.{Answer, answer_at, answer_on, value_text, end_line, end_status, printed}
-use Rattle.orbit_cli.specs.Changes.{Change, change, PutFailed, Says}
+use Rattle.orbit_cli.specs.Changes.{Change, change, Says, IsPut}
 use Rattle.orbit_cli.specs.Outcome.{IsAnswered}
 use Rattle.orbit_cli.specs.Parts.{Reports}
 
@@ -58,24 +57,24 @@ service_cut_off took b c steps old new f =
       f.given,
     )
 
-module _ {S E : Type 0} (o : SinkOf S) (e : SinkOf E) where
-  -- a line was put, or a put failed
-  says : {T D : Type 0} (err : Change E) (line : List ℕ) (r : Result T D) → OnOk r (e.took err.old line err.new) → OnErr r (PutFailed e err) → Says e err line
-  says err line (Ok x) taken failed = λ quiet. taken
-  says err line (Err x) taken failed = λ quiet. absurd (quiet failed)
+-- a line was put, or a put failed
+pub says : {E T D : Type 0} (e : SinkOf E) (err : Change E) (line : List ℕ) (r : Result T D) → IsPut e err line r → Says e err line
+says e err line (Ok x) put = record { whole = λ quiet. put.whole; front = (line, [], sym (append-nil line), put.whole) }
+says e err line (Err x) put = record { whole = λ quiet. absurd (quiet put.cause.failed); front = put.part }
 
+module _ {S E : Type 0} (o : SinkOf S) (e : SinkOf E) where
   -- a run ended so, without a value, and its line was put
   pub ended_so : {T D : Type 0} (b : Loaded) (steps : ℕ) (end : Option Exit) (out : Change S) (err : Change E) (ended : Status) (r : Result T D)
       → (run_on b steps).end ≡ end → value_text b.names (last_after b.last (run_on b steps).output) end ≡ [] → end_status end ≡ ended → (ended ≡ status.Done → ⊥)
-      → o.took out.old (run_on b steps).output out.new → OnOk r (e.took err.old (end_line steps end) err.new) → OnErr r (PutFailed e err)
+      → o.took out.old (run_on b steps).output out.new → IsPut e err (end_line steps end) r
       → Reports o e out err (answer_on b steps) ended
-  ended_so b steps end out err ended r same no_text status_is not_done taken ok failed =
+  ended_so b steps end out err ended r same no_text status_is not_done taken put_so =
       let put : List ℕ = (run_on b steps).output in
       let whole : answer_at b put end steps ≡ answer_on b steps = ap (λ (x : Option Exit). answer_at b put x steps) (sym same) in
       let no_line : put ≡ put ++ value_text b.names (last_after b.last put) end = sym (append-nil put) ∙ ap (λ (l : List ℕ). put ++ l) (sym no_text) in
       inl (subst (λ (a : Answer). IsAnswered o e out err a ended) whole (record {
         printed = subst (λ (l : List ℕ). o.took out.old l out.new) no_line taken;
-        noted = says err (end_line steps end) r ok failed;
+        noted = says e err (end_line steps end) r put_so;
         silent = λ done. absurd (not_done done);
         status_is = status_is;
       }))

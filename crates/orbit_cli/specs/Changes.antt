@@ -1,8 +1,8 @@
 -- What a call does to a folder and to a sink.
-use Rattle.std.specs.Prelude.{◌≡◌, ℕ, ◌<◌, ◌≤◌, List, length, Some}
+use Rattle.std.specs.Prelude.{◌≡◌, ℕ, ◌<◌, ◌≤◌, List, length, Some, Result, OnOk, OnErr}
 use Rattle.t_ports.specs.declared.ports.Folder.{Ghosts as FolderOf}
 use Rattle.t_ports.specs.declared.ports.Sink.{Ghosts as SinkOf}
-use Rattle.t_ports.specs.Causes.{Rose}
+use Rattle.t_ports.specs.Causes.{Rose, HasCause}
 use Rattle.t_ports.specs.Files.{IfTold, IfBothTold, IsSame, Puts}
 use Rattle.t_ports.specs.Pieces.{TookFront}
 
@@ -24,9 +24,21 @@ IsIdle c = c.new ≡ c.old
 abbrev pub PutFailed : {S : Type 0} → SinkOf S → Change S → Type 0
 PutFailed o out = Rose (o.faults out.old) (o.faults out.new)
 
--- the sink took exactly the text, where no put to it failed
-abbrev pub Says : {S : Type 0} → SinkOf S → Change S → List ℕ → Type 0
-Says o out text = (PutFailed o out → ⊥) → o.took out.old text out.new
+-- the sink took a front of the text and nothing else, and all of it where no put to it failed
+pub record Says {S : Type 0} (o : SinkOf S) (out : Change S) (text : List ℕ) : Type 0 where
+  pub whole : (PutFailed o out → ⊥) → o.took out.old text out.new
+  pub front : TookFront o.took out.old text out.new
+
+-- A text was put: the sink took it whole, or a front of it where the answer says that a put failed. Its count of faults rose then
+-- and only then.
+pub record IsPut {S T D : Type 0} (o : SinkOf S) (out : Change S) (text : List ℕ) (result : Result T D) : Type 0 where
+  pub whole : OnOk result (o.took out.old text out.new)
+  pub part : OnErr result (TookFront o.took out.old text out.new)
+  pub cause : HasCause (o.faults out.old) (o.faults out.new) result
+
+-- no put to it failed
+abbrev pub HasTakenAll : {S : Type 0} → SinkOf S → Change S → Type 0
+HasTakenAll o out = o.faults out.new ≡ o.faults out.old
 
 -- a put to it failed, behind a front of what was due
 pub record IsCut {S : Type 0} (o : SinkOf S) (out : Change S) (due : List ℕ) : Type 0 where
@@ -41,6 +53,15 @@ module _ {F : Type 0} (f : FolderOf F) (folder : Change F) where
 
   abbrev pub KeepFailed : Type 0
   KeepFailed = Rose (f.keep_faults folder.old) (f.keep_faults folder.new)
+
+  -- no fetch and no keep failed
+  pub record HasServed : Type 0 where
+    pub fetches : f.fetch_faults folder.new ≡ f.fetch_faults folder.old
+    pub keeps : f.keep_faults folder.new ≡ f.keep_faults folder.old
+
+  -- exactly these names were fetched, in this order
+  abbrev pub AsksFor : List (List ℕ) → Type 0
+  AsksFor names = f.fetched folder.old names folder.new
 
   -- nothing was kept
   abbrev pub IsUnchanged : Type 0

@@ -18,11 +18,13 @@ use Rattle.m68020_step.specs.declared.registers.Why.TheVariants.{Illegal, BadAdd
 use Rattle.orbit_cli.specs.declared.refusal.SourceKind.{SourceKind}
 use Rattle.orbit_cli.specs.declared.refusal.SourceKind.TheVariants as source
 
+-- #\ and three digits
+abbrev pub numbered_text : ℕ → List ℕ
+numbered_text c = 35 ∷ 92 ∷ (48 + c / 100) ∷ (48 + c / 10 % 10) ∷ (48 + c % 10) ∷ []
+
 -- a character without a name: as its byte, or by its number in three digits
 abbrev pub unnamed_text : ℕ → List ℕ
-unnamed_text c =
-    if is_ascii_graphic c then 35 ∷ 92 ∷ c ∷ []
-    else 35 ∷ 92 ∷ (48 + c / 100) ∷ (48 + c / 10 % 10) ∷ (48 + c % 10) ∷ []
+unnamed_text c = if is_ascii_graphic c then 35 ∷ 92 ∷ c ∷ [] else numbered_text c
 
 abbrev pub character_text : ℕ → List ℕ
 character_text c =

@@ -18,9 +18,9 @@ use Rattle.orbit_cli.specs.declared.refusal.SourceKind.TheVariants as source
 use Rattle.orbit_cli.specs.declared.words.Bounds.{Bounds}
 use Rattle.orbit_cli.specs.declared.status.Status.{Status}
 use Rattle.orbit_cli.specs.declared.status.Status.TheVariants as status
-use Rattle.orbit_cli.specs.Words.{Command, Compile, Run, Go, Check, Listing, command_of}
+use Rattle.orbit_cli.specs.Words.{Command, Compile, Run, Go, Check, Listing, command_of, names_fetched}
 use Rattle.orbit_cli.specs.Lines.{usage_line, source_line, over_line, bad_image_line, unread_line, long_line, write_line, memory_line, unbuilt_line}
-use Rattle.orbit_cli.specs.Changes.{Change, IsIdle, Says, IsCut, FetchFailed, KeepFailed, IsUnchanged, Keeps, Gives, HasMore, GivesSuch}
+use Rattle.orbit_cli.specs.Changes.{Change, IsIdle, Says, IsCut, HasTakenAll, HasServed, AsksFor, FetchFailed, KeepFailed, IsUnchanged, Keeps, Gives, HasMore, GivesSuch}
 use Rattle.orbit_cli.specs.Answer.{Answer, answer, listing_answer, counts_answer}
 
 -- most bytes of a text, and of an image
@@ -56,6 +56,16 @@ pub record IsCompiled {F : Type 0} (f : FolderOf F) (folder : Change F) (src img
   pub kept : Keeps f folder img bytes
 
 -- ---- what a command does to the folder and to err
+
+-- Of a status at which all was done, or a run has ended or was cut off by its bound, a fact.
+abbrev pub IfServed : Status → Type 0 → Type 0
+IfServed status.Done p = p
+IfServed status.SourceFault p = p
+IfServed status.HeapFull p = p
+IfServed status.StackFull p = p
+IfServed status.StepLimit p = p
+IfServed status.MachineStop p = p
+IfServed _ p = Unit {0}
 
 module _ {F E : Type 0} (f : FolderOf F) (e : SinkOf E) (folder : Change F) (err : Change E) where
   -- nothing was kept, err took the line, and this is why
@@ -181,7 +191,7 @@ module _ {F S E : Type 0} (f : FolderOf F) (o : SinkOf S) (e : SinkOf E) (folder
   pub record IsMisused (ended : Status) : Type 0 where
     pub usage : ended ≡ status.Usage
     pub idle : IsIdle out
-    pub unchanged : IsUnchanged f folder
+    pub untouched : IsIdle folder
     pub noted : Says e err usage_line
 
   -- of a command
@@ -193,6 +203,9 @@ module _ {F S E : Type 0} (f : FolderOf F) (o : SinkOf S) (e : SinkOf E) (folder
   CommandOutcome (Some (Listing img)) ended = ListOutcome img ended
   CommandOutcome None ended = IsMisused ended
 
-  -- of the program on some words
-  abbrev pub Outcome : List (List ℕ) → Status → Type 0
-  Outcome words ended = CommandOutcome (command_of words) ended
+  -- Of the program on some words. It fetches what they name and nothing else; where all was done or a run reported, no fetch, keep or
+  -- put to out failed.
+  pub record Outcome (words : List (List ℕ)) (ended : Status) : Type 0 where
+    pub comes : CommandOutcome (command_of words) ended
+    pub served : IfServed ended (HasServed f folder × HasTakenAll o out)
+    pub asked : AsksFor f folder (names_fetched (command_of words))

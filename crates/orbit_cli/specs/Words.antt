@@ -60,3 +60,12 @@ command_of (name ∷ img ∷ heap ∷ stack ∷ most ∷ []) =
 command_of (name ∷ src ∷ img ∷ heap ∷ stack ∷ most ∷ []) =
     if bytes_eq name (codes "go") then option_map (λ bounds. Go src img bounds) (bounds_of heap stack most) else None
 command_of words = None
+
+-- the names that a command fetches, which are that of its text, or of the image that it runs or lists
+abbrev pub names_fetched : Option Command → List (List ℕ)
+names_fetched (Some (Compile src img)) = src ∷ []
+names_fetched (Some (Run img bounds)) = img ∷ []
+names_fetched (Some (Go src img bounds)) = src ∷ []
+names_fetched (Some (Check src)) = src ∷ []
+names_fetched (Some (Listing img)) = img ∷ []
+names_fetched None = []

@@ -1,9 +1,9 @@
 //! The commands, each over the folder and the sinks that it needs.
 
-ghost use Rattle.std.specs.Prelude.{◌≡◌};
-ghost use Rattle.orbit_cli.specs.Changes.{change};
+ghost use Rattle.std.specs.Prelude.{◌≡◌, ◌∷◌, []};
+ghost use Rattle.orbit_cli.specs.Changes.{change, AsksFor, HasServed, HasTakenAll};
 ghost use Rattle.orbit_cli.specs.Command.{AreSizes};
-ghost use Rattle.orbit_cli.specs.Outcome.{CompileOutcome, CheckOutcome, RunOutcome, ListOutcome, GoOutcome};
+ghost use Rattle.orbit_cli.specs.Outcome.{IfServed, CompileOutcome, CheckOutcome, RunOutcome, ListOutcome, GoOutcome};
 
 use crate::image::{fetch_listing, load_image};
 use crate::prepare::{compile_and_keep, fetch_counts, keep, prepare};
@@ -22,7 +22,9 @@ pub fn compile_text<F: Folder, E: Sink>(
     folder: &mut F,
     err: &mut E,
 ) -> Status
-    ensures { CompileOutcome F.Folder E.Sink (change folder.old folder.new) (change err.old err.new) src.now img.now result }
+    ensures outcome { CompileOutcome F.Folder E.Sink (change folder.old folder.new) (change err.old err.new) src.now img.now result }
+    ensures asks { AsksFor F.Folder (change folder.old folder.new) (src.now ∷ []) }
+    ensures served { IfServed result (HasServed F.Folder (change folder.old folder.new)) }
 {
     match compile_and_keep(alloc, src, img, folder) {
         Ok(()) => Status::Done,
@@ -41,7 +43,10 @@ pub fn compile_and_run<F: Folder, S: Sink, E: Sink>(
     err: &mut E,
 ) -> Status
     requires { AreSizes bounds.sizes }
-    ensures { GoOutcome F.Folder S.Sink E.Sink (change folder.old folder.new) (change out.old out.new) (change err.old err.new) src.now img.now bounds result }
+    ensures outcome { GoOutcome F.Folder S.Sink E.Sink (change folder.old folder.new) (change out.old out.new) (change err.old err.new) src.now img.now bounds result }
+    ensures asks { AsksFor F.Folder (change folder.old folder.new) (src.now ∷ []) }
+    ensures served { IfServed result (HasServed F.Folder (change folder.old folder.new)) }
+    ensures taken { IfServed result (HasTakenAll S.Sink (change out.old out.new)) }
 {
     let ready = match prepare(alloc, src, bounds.sizes, folder) {
         Ok(ready) => ready,
@@ -62,7 +67,10 @@ pub fn check<F: Folder, S: Sink, E: Sink>(
     out: &mut S,
     err: &mut E,
 ) -> Status
-    ensures { CheckOutcome F.Folder S.Sink E.Sink (change folder.old folder.new) (change out.old out.new) (change err.old err.new) src.now result }
+    ensures outcome { CheckOutcome F.Folder S.Sink E.Sink (change folder.old folder.new) (change out.old out.new) (change err.old err.new) src.now result }
+    ensures asks { AsksFor F.Folder (change folder.old folder.new) (src.now ∷ []) }
+    ensures served { IfServed result (HasServed F.Folder (change folder.old folder.new)) }
+    ensures taken { IfServed result (HasTakenAll S.Sink (change out.old out.new)) }
 {
     match fetch_counts(alloc, src, folder) {
         Ok(counts) => print_counts(counts, out, err),
@@ -80,7 +88,10 @@ pub fn run_image<F: Folder, S: Sink, E: Sink>(
     err: &mut E,
 ) -> Status
     requires { AreSizes bounds.sizes }
-    ensures { RunOutcome F.Folder S.Sink E.Sink (change folder.old folder.new) (change out.old out.new) (change err.old err.new) img.now bounds result }
+    ensures outcome { RunOutcome F.Folder S.Sink E.Sink (change folder.old folder.new) (change out.old out.new) (change err.old err.new) img.now bounds result }
+    ensures asks { AsksFor F.Folder (change folder.old folder.new) (img.now ∷ []) }
+    ensures served { IfServed result (HasServed F.Folder (change folder.old folder.new)) }
+    ensures taken { IfServed result (HasTakenAll S.Sink (change out.old out.new)) }
 {
     match load_image(alloc, img, bounds.sizes, folder) {
         Ok(loaded) => {
@@ -99,7 +110,10 @@ pub fn list_image<F: Folder, S: Sink, E: Sink>(
     out: &mut S,
     err: &mut E,
 ) -> Status
-    ensures { ListOutcome F.Folder S.Sink E.Sink (change folder.old folder.new) (change out.old out.new) (change err.old err.new) img.now result }
+    ensures outcome { ListOutcome F.Folder S.Sink E.Sink (change folder.old folder.new) (change out.old out.new) (change err.old err.new) img.now result }
+    ensures asks { AsksFor F.Folder (change folder.old folder.new) (img.now ∷ []) }
+    ensures served { IfServed result (HasServed F.Folder (change folder.old folder.new)) }
+    ensures taken { IfServed result (HasTakenAll S.Sink (change out.old out.new)) }
 {
     match fetch_listing(alloc, img, folder) {
         Ok(text) => print(&text, out, err),

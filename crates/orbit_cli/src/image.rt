@@ -1,8 +1,8 @@
 //! From the name of an image to the image, to its program in the machine and to its listing.
 
-ghost use Rattle.std.specs.Prelude.{◌≡◌, IfOk, IfErr};
+ghost use Rattle.std.specs.Prelude.{◌≡◌, ◌∷◌, [], IfOk, IfErr, OnOk};
 ghost use Rattle.image_file.specs.Grammar.{parts_of};
-ghost use Rattle.orbit_cli.specs.Changes.{change, Gives, IsUnchanged};
+ghost use Rattle.orbit_cli.specs.Changes.{change, AsksFor, Gives, HasServed, IsUnchanged};
 ghost use Rattle.orbit_cli.specs.Command.{AreSizes};
 ghost use Rattle.orbit_cli.specs.Outcome.{most_image};
 ghost use Rattle.orbit_cli.specs.Parts.{ImageCause, IsFetched, IsFetchedProgram, IsFetchedListing};
@@ -19,6 +19,8 @@ use t_ports::ports::{FetchFault, Folder};
 const MAX_IMAGE: usize = 0x2000_0000;
 
 fn fetch_bytes<F: Folder>(alloc: Global, img: &str, folder: &mut F) -> Result<Vec<u8>, Refusal>
+    ensures asks { AsksFor F.Folder (change folder.old folder.new) (img.now ∷ []) }
+    ensures served { OnOk result (HasServed F.Folder (change folder.old folder.new)) }
     ensures same { IsUnchanged F.Folder (change folder.old folder.new) }
     ensures given { IfOk result (λ bytes. Gives F.Folder (change folder.old folder.new) most_image img.now bytes.items) }
     ensures refused { IfErr result (ImageCause F.Folder (change folder.old folder.new) img.now) }
@@ -33,6 +35,8 @@ fn fetch_bytes<F: Folder>(alloc: Global, img: &str, folder: &mut F) -> Result<Ve
 
 /// Fetches an image.
 fn fetch_image<F: Folder>(alloc: Global, img: &str, folder: &mut F) -> Result<Image, Refusal>
+    ensures asks { AsksFor F.Folder (change folder.old folder.new) (img.now ∷ []) }
+    ensures served { OnOk result (HasServed F.Folder (change folder.old folder.new)) }
     ensures same { IsUnchanged F.Folder (change folder.old folder.new) }
     ensures found { IfOk result (λ image. IsFetched F.Folder (change folder.old folder.new) img.now (parts_of image)) }
     ensures refused { IfErr result (ImageCause F.Folder (change folder.old folder.new) img.now) }
@@ -53,6 +57,8 @@ pub fn load_image<F: Folder>(
     folder: &mut F,
 ) -> Result<Boot, Refusal>
     requires { AreSizes sizes }
+    ensures asks { AsksFor F.Folder (change folder.old folder.new) (img.now ∷ []) }
+    ensures served { OnOk result (HasServed F.Folder (change folder.old folder.new)) }
     ensures same { IsUnchanged F.Folder (change folder.old folder.new) }
     ensures loaded { IfOk result (λ loaded. IsFetchedProgram F.Folder (change folder.old folder.new) img.now sizes loaded) }
     ensures refused { IfErr result (ImageCause F.Folder (change folder.old folder.new) img.now) }
@@ -68,6 +74,8 @@ pub fn fetch_listing<F: Folder>(
     img: &str,
     folder: &mut F,
 ) -> Result<Vec<u8>, Refusal>
+    ensures asks { AsksFor F.Folder (change folder.old folder.new) (img.now ∷ []) }
+    ensures served { OnOk result (HasServed F.Folder (change folder.old folder.new)) }
     ensures same { IsUnchanged F.Folder (change folder.old folder.new) }
     ensures listed { IfOk result (λ text. IsFetchedListing F.Folder (change folder.old folder.new) img.now text.items) }
     ensures refused { IfErr result (ImageCause F.Folder (change folder.old folder.new) img.now) }

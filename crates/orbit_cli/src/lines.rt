@@ -1,10 +1,10 @@
 //! The lines that are printed, each by a function of its own.
 
-ghost use Rattle.std.specs.Prelude.{◌≡◌, ◌<◌, OnOk, OnErr};
+ghost use Rattle.std.specs.Prelude.{◌≡◌, ◌<◌, Some};
 ghost use Rattle.std.specs.Fmt.{signed_decimal};
-ghost use Rattle.t_ports.specs.Causes.{HasCause};
-ghost use Rattle.t_ports.specs.Pieces.{TookFront};
-ghost use Rattle.orbit_cli.specs.Lines.{unnamed_text, character_text, kind_text, line_end, value_line, fault_words, operand_of, fault_line, region_name, full_line, limit_line, stop_name, hex_digit, hex_address, stop_line, read_kind_name, syntax_kind_name, source_kind_name, located_line, source_line, limit_name, limit_count, limit_number, count_line, over_line, counts_line, image_kind_name, place_line, bad_image_line, unread_line, long_line};
+ghost use Rattle.t_ports.specs.Pieces.{text_of};
+ghost use Rattle.orbit_cli.specs.Changes.{change, IsPut};
+ghost use Rattle.orbit_cli.specs.Lines.{numbered_text, unnamed_text, character_text, kind_text, line_end, value_line, fault_words, operand_of, raised_line, fault_line, region_name, full_line, limit_line, stop_name, hex_digit, hex_address, stop_line, read_kind_name, syntax_kind_name, source_kind_name, located_line, source_line, limit_name, limit_count, limit_number, count_line, over_line, counts_line, image_kind_name, place_line, bad_image_line, unread_line, long_line};
 
 use crate::refusal::SourceKind;
 use image_file::ImageKind;
@@ -16,6 +16,20 @@ use t_ports::pieces::put_all;
 use t_ports::ports::{Failed, Sink};
 use t_reader::ReadKind;
 use t_rows::SyntaxKind;
+
+// Puts the pieces one after the other.
+fn put_pieces<S: Sink>(sink: &mut S, pieces: &[&[u8]]) -> Result<(), Failed>
+    ensures { IsPut S.Sink (change sink.old sink.new) (text_of pieces.now) result }
+{
+    put_all(sink, pieces)
+}
+
+/// Puts a text in one piece.
+pub fn put_text<S: Sink>(sink: &mut S, text: &[u8]) -> Result<(), Failed>
+    ensures { IsPut S.Sink (change sink.old sink.new) text.now result }
+{
+    sink.put(text)
+}
 
 // What ends the last line of output whose last byte is this one.
 fn end_of_line<'a>(last: Option<u8>) -> &'a [u8]
@@ -29,43 +43,46 @@ fn end_of_line<'a>(last: Option<u8>) -> &'a [u8]
 
 /// Puts the line of a value that is printed as the text, behind output whose last byte is `last`.
 pub fn put_value<S: Sink>(sink: &mut S, last: Option<u8>, text: &[u8]) -> Result<(), Failed>
-    ensures ok { OnOk result (S.took sink.old (value_line last text.now) sink.new) }
-    ensures part { OnErr result (TookFront S.took sink.old (value_line last text.now) sink.new) }
-    ensures cause { HasCause (S.faults sink.old) (S.faults sink.new) result }
+    ensures { IsPut S.Sink (change sink.old sink.new) (value_line last text.now) result }
 {
-    put_all(sink, &[end_of_line(last), b"value ", text, b"\n"])
+    put_pieces(sink, &[end_of_line(last), b"value ", text, b"\n"])
 }
 
 /// The same of a number.
 pub fn put_number_value<S: Sink>(sink: &mut S, last: Option<u8>, number: i32) -> Result<(), Failed>
-    ensures ok { OnOk result (S.took sink.old (value_line last (signed_decimal number)) sink.new) }
-    ensures part { OnErr result (TookFront S.took sink.old (value_line last (signed_decimal number)) sink.new) }
-    ensures cause { HasCause (S.faults sink.old) (S.faults sink.new) result }
+    ensures { IsPut S.Sink (change sink.old sink.new) (value_line last (signed_decimal number)) result }
 {
     let mut buffer = Buffer::new();
     put_value(sink, last, buffer.format(number).as_bytes())
 }
 
+// How a character is printed by its number.
+#[tactic(auto, unfolding(crate::specs::Lines::numbered_text))]
+fn numbered(code: u8) -> [u8; 5]
+    ensures { result ≡ numbered_text code }
+{
+    [
+        b'#',
+        b'\\',
+        b'0' + code / 100,
+        b'0' + code / 10 % 10,
+        b'0' + code % 10,
+    ]
+}
+
 // The same of a character that has no name.
 fn put_unnamed_value<S: Sink>(sink: &mut S, last: Option<u8>, code: u8) -> Result<(), Failed>
-    ensures ok { OnOk result (S.took sink.old (value_line last (unnamed_text code)) sink.new) }
-    ensures part { OnErr result (TookFront S.took sink.old (value_line last (unnamed_text code)) sink.new) }
-    ensures cause { HasCause (S.faults sink.old) (S.faults sink.new) result }
+    ensures { IsPut S.Sink (change sink.old sink.new) (value_line last (unnamed_text code)) result }
 {
     if code.is_ascii_graphic() {
         return put_value(sink, last, &[b'#', b'\\', code]);
     }
-    let hundreds = b'0' + code / 100;
-    let tens = b'0' + code / 10 % 10;
-    let ones = b'0' + code % 10;
-    put_value(sink, last, &[b'#', b'\\', hundreds, tens, ones])
+    put_value(sink, last, &numbered(code))
 }
 
 /// The same of a character.
 pub fn put_character_value<S: Sink>(sink: &mut S, last: Option<u8>, code: u8) -> Result<(), Failed>
-    ensures ok { OnOk result (S.took sink.old (value_line last (character_text code)) sink.new) }
-    ensures part { OnErr result (TookFront S.took sink.old (value_line last (character_text code)) sink.new) }
-    ensures cause { HasCause (S.faults sink.old) (S.faults sink.new) result }
+    ensures { IsPut S.Sink (change sink.old sink.new) (value_line last (character_text code)) result }
 {
     match code {
         b' ' => put_value(sink, last, b"#\\space"),
@@ -114,19 +131,23 @@ fn words_of(fault: Fault) -> (&'static [u8], Option<i32>)
     }
 }
 
+// Puts the line of a fault with the number that an error of the program gives.
+fn put_raised<S: Sink>(sink: &mut S, words: &[u8], number: i32) -> Result<(), Failed>
+    ensures { IsPut S.Sink (change sink.old sink.new) (raised_line words.now (Some number)) result }
+{
+    let mut buffer = Buffer::new();
+    let number = buffer.format(number).as_bytes();
+    put_pieces(sink, &[b"fault ", words, b" ", number, b"\n"])
+}
+
 /// Puts the line of a fault.
 pub fn put_fault<S: Sink>(sink: &mut S, fault: Fault) -> Result<(), Failed>
-    ensures ok { OnOk result (S.took sink.old (fault_line fault) sink.new) }
-    ensures cause { HasCause (S.faults sink.old) (S.faults sink.new) result }
+    ensures { IsPut S.Sink (change sink.old sink.new) (fault_line fault) result }
 {
     let (words, operand) = words_of(fault);
     match operand {
-        None => put_all(sink, &[b"fault ", words, b"\n"]),
-        Some(number) => {
-            let mut buffer = Buffer::new();
-            let number = buffer.format(number).as_bytes();
-            put_all(sink, &[b"fault ", words, b" ", number, b"\n"])
-        }
+        None => put_pieces(sink, &[b"fault ", words, b"\n"]),
+        Some(number) => put_raised(sink, words, number),
     }
 }
 
@@ -138,14 +159,13 @@ fn region(stack: bool) -> &'static [u8]
 
 /// Puts the line of a full heap or stack, with the bytes asked for and left.
 pub fn put_full<S: Sink>(sink: &mut S, stack: bool, asked: u32, left: u32) -> Result<(), Failed>
-    ensures ok { OnOk result (S.took sink.old (full_line stack asked left) sink.new) }
-    ensures cause { HasCause (S.faults sink.old) (S.faults sink.new) result }
+    ensures { IsPut S.Sink (change sink.old sink.new) (full_line stack asked left) result }
 {
     let mut asked_text = Buffer::new();
     let mut left_text = Buffer::new();
     let asked = asked_text.format(asked).as_bytes();
     let left = left_text.format(left).as_bytes();
-    put_all(
+    put_pieces(
         sink,
         &[
             region(stack),
@@ -160,12 +180,11 @@ pub fn put_full<S: Sink>(sink: &mut S, stack: bool, asked: u32, left: u32) -> Re
 
 /// Puts the line of a run that did not end within so many instructions.
 pub fn put_limit<S: Sink>(sink: &mut S, steps: u64) -> Result<(), Failed>
-    ensures ok { OnOk result (S.took sink.old (limit_line steps) sink.new) }
-    ensures cause { HasCause (S.faults sink.old) (S.faults sink.new) result }
+    ensures { IsPut S.Sink (change sink.old sink.new) (limit_line steps) result }
 {
     let mut buffer = Buffer::new();
     let steps = buffer.format(steps).as_bytes();
-    put_all(sink, &[b"step limit: ", steps, b"\n"])
+    put_pieces(sink, &[b"step limit: ", steps, b"\n"])
 }
 
 fn name_of_stop(why: Why) -> &'static [u8]
@@ -210,10 +229,9 @@ fn digits_of(address: u32) -> [u8; 8]
 
 /// Puts the line of a stop of the machine at an address.
 pub fn put_stop<S: Sink>(sink: &mut S, why: Why, at: u32) -> Result<(), Failed>
-    ensures ok { OnOk result (S.took sink.old (stop_line why at) sink.new) }
-    ensures cause { HasCause (S.faults sink.old) (S.faults sink.new) result }
+    ensures { IsPut S.Sink (change sink.old sink.new) (stop_line why at) result }
 {
-    put_all(
+    put_pieces(
         sink,
         &[
             b"machine stop ",
@@ -272,10 +290,9 @@ fn put_located<S: Sink>(
     column: &str,
     refusal: &[u8],
 ) -> Result<(), Failed>
-    ensures ok { OnOk result (S.took sink.old (located_line src.now line.now column.now refusal.now) sink.new) }
-    ensures cause { HasCause (S.faults sink.old) (S.faults sink.new) result }
+    ensures { IsPut S.Sink (change sink.old sink.new) (located_line src.now line.now column.now refusal.now) result }
 {
-    put_all(
+    put_pieces(
         sink,
         &[
             src.as_bytes(),
@@ -298,8 +315,7 @@ pub fn put_source_fault<S: Sink>(
     column: u32,
     kind: SourceKind,
 ) -> Result<(), Failed>
-    ensures ok { OnOk result (S.took sink.old (source_line src.now line column kind) sink.new) }
-    ensures cause { HasCause (S.faults sink.old) (S.faults sink.new) result }
+    ensures { IsPut S.Sink (change sink.old sink.new) (source_line src.now line column kind) result }
 {
     let mut line_text = Buffer::new();
     let mut column_text = Buffer::new();
@@ -346,10 +362,9 @@ fn put_count<S: Sink>(
     count: &str,
     number: &str,
 ) -> Result<(), Failed>
-    ensures ok { OnOk result (S.took sink.old (count_line src.now limit.now count.now number.now) sink.new) }
-    ensures cause { HasCause (S.faults sink.old) (S.faults sink.new) result }
+    ensures { IsPut S.Sink (change sink.old sink.new) (count_line src.now limit.now count.now number.now) result }
 {
-    put_all(
+    put_pieces(
         sink,
         &[
             src.as_bytes(),
@@ -366,8 +381,7 @@ fn put_count<S: Sink>(
 
 /// Puts the line of a text that is over a limit.
 pub fn put_over<S: Sink>(sink: &mut S, src: &str, fault: LimitFault) -> Result<(), Failed>
-    ensures ok { OnOk result (S.took sink.old (over_line src.now fault) sink.new) }
-    ensures cause { HasCause (S.faults sink.old) (S.faults sink.new) result }
+    ensures { IsPut S.Sink (change sink.old sink.new) (over_line src.now fault) result }
 {
     let mut count_text = Buffer::new();
     let mut number_text = Buffer::new();
@@ -378,15 +392,13 @@ pub fn put_over<S: Sink>(sink: &mut S, src: &str, fault: LimitFault) -> Result<(
 
 /// Puts the line of a text's counts: the nodes of its largest form, and its weight.
 pub fn put_counts<S: Sink>(sink: &mut S, nodes: u32, weight: u64) -> Result<(), Failed>
-    ensures ok { OnOk result (S.took sink.old (counts_line nodes weight) sink.new) }
-    ensures part { OnErr result (TookFront S.took sink.old (counts_line nodes weight) sink.new) }
-    ensures cause { HasCause (S.faults sink.old) (S.faults sink.new) result }
+    ensures { IsPut S.Sink (change sink.old sink.new) (counts_line nodes weight) result }
 {
     let mut nodes_text = Buffer::new();
     let mut weight_text = Buffer::new();
     let nodes = nodes_text.format(nodes);
     let weight = weight_text.format(weight);
-    put_all(
+    put_pieces(
         sink,
         &[
             b"nodes ",
@@ -412,10 +424,9 @@ fn name_of_image_kind<'a>(kind: ImageKind) -> &'a [u8]
 
 // Puts a name, the kind of what fails and its place.
 fn put_place<S: Sink>(sink: &mut S, img: &str, kind: &[u8], at: &str) -> Result<(), Failed>
-    ensures ok { OnOk result (S.took sink.old (place_line img.now kind.now at.now) sink.new) }
-    ensures cause { HasCause (S.faults sink.old) (S.faults sink.new) result }
+    ensures { IsPut S.Sink (change sink.old sink.new) (place_line img.now kind.now at.now) result }
 {
-    put_all(
+    put_pieces(
         sink,
         &[img.as_bytes(), b": ", kind, b" at ", at.as_bytes(), b"\n"],
     )
@@ -428,8 +439,7 @@ pub fn put_bad_image<S: Sink>(
     kind: ImageKind,
     at: u32,
 ) -> Result<(), Failed>
-    ensures ok { OnOk result (S.took sink.old (bad_image_line img.now kind at) sink.new) }
-    ensures cause { HasCause (S.faults sink.old) (S.faults sink.new) result }
+    ensures { IsPut S.Sink (change sink.old sink.new) (bad_image_line img.now kind at) result }
 {
     let mut buffer = Buffer::new();
     put_place(sink, img, name_of_image_kind(kind), buffer.format(at))
@@ -437,16 +447,14 @@ pub fn put_bad_image<S: Sink>(
 
 /// Puts the line of a file that could not be read.
 pub fn put_unread<S: Sink>(sink: &mut S, name: &str) -> Result<(), Failed>
-    ensures ok { OnOk result (S.took sink.old (unread_line name.now) sink.new) }
-    ensures cause { HasCause (S.faults sink.old) (S.faults sink.new) result }
+    ensures { IsPut S.Sink (change sink.old sink.new) (unread_line name.now) result }
 {
-    put_all(sink, &[b"cannot read: ", name.as_bytes(), b"\n"])
+    put_pieces(sink, &[b"cannot read: ", name.as_bytes(), b"\n"])
 }
 
 /// Puts the line of a file that is too long.
 pub fn put_long<S: Sink>(sink: &mut S, name: &str) -> Result<(), Failed>
-    ensures ok { OnOk result (S.took sink.old (long_line name.now) sink.new) }
-    ensures cause { HasCause (S.faults sink.old) (S.faults sink.new) result }
+    ensures { IsPut S.Sink (change sink.old sink.new) (long_line name.now) result }
 {
-    put_all(sink, &[b"too long: ", name.as_bytes(), b"\n"])
+    put_pieces(sink, &[b"too long: ", name.as_bytes(), b"\n"])
 }

@@ -1,11 +1,11 @@
 //! From the name of a text to its image: fetched, translated, loaded and kept. And from the name of a text to its counts.
 
-ghost use Rattle.std.specs.Prelude.{◌≡◌, ◌≤◌, ◌^◌, ℕ, List, IsTrue, length, IfOk, IfErr, OnOk, OnErr};
+ghost use Rattle.std.specs.Prelude.{◌≡◌, ◌≤◌, ◌^◌, ◌∷◌, [], ℕ, List, IsTrue, length, IfOk, IfErr, OnOk, OnErr};
 ghost use Rattle.t_base.specs.Lines.{line_of, column_of};
 ghost use Rattle.image_file.specs.Grammar.{Parts, IsImageOf};
 ghost use Rattle.m68020_step.specs.Boot.{is_size};
 ghost use Rattle.orbit_build.specs.Faithful.{IsUnbuilt, IsBuilt, Faithful};
-ghost use Rattle.orbit_cli.specs.Changes.{change, Gives, IsUnchanged, Keeps};
+ghost use Rattle.orbit_cli.specs.Changes.{change, AsksFor, Gives, HasServed, IsUnchanged, Keeps};
 ghost use Rattle.orbit_cli.specs.Command.{AreSizes};
 ghost use Rattle.orbit_cli.specs.Outcome.{most_text, IsCompiled};
 ghost use Rattle.orbit_cli.specs.Parts.{refusal_of, TextCause, NoText, CompileCause, CheckCause, KeepCause, IsTranslated, IsProgram, IsCounted, IsFetchedCounts};
@@ -38,6 +38,8 @@ pub struct Counts {
 }
 
 fn fetch_text<F: Folder>(alloc: Global, src: &str, folder: &mut F) -> Result<Vec<u8>, Refusal>
+    ensures asks { AsksFor F.Folder (change folder.old folder.new) (src.now ∷ []) }
+    ensures served { OnOk result (HasServed F.Folder (change folder.old folder.new)) }
     ensures same { IsUnchanged F.Folder (change folder.old folder.new) }
     ensures keeps { F.keep_faults folder.new ≡ F.keep_faults folder.old }
     ensures given { IfOk result (λ text. Gives F.Folder (change folder.old folder.new) most_text src.now text.items) }
@@ -91,6 +93,8 @@ fn translate(alloc: Global, text: &[u8]) -> Result<Vec<u8>, Refusal>
 
 /// Fetches a text and makes its image.
 fn fetch_translated<F: Folder>(alloc: Global, src: &str, folder: &mut F) -> Result<Vec<u8>, Refusal>
+    ensures asks { AsksFor F.Folder (change folder.old folder.new) (src.now ∷ []) }
+    ensures served { OnOk result (HasServed F.Folder (change folder.old folder.new)) }
     ensures same { IsUnchanged F.Folder (change folder.old folder.new) }
     ensures keeps { F.keep_faults folder.new ≡ F.keep_faults folder.old }
     ensures translated { IfOk result (λ bytes. IsTranslated F.Folder (change folder.old folder.new) src.now bytes.items) }
@@ -122,6 +126,8 @@ pub fn prepare<F: Folder>(
     folder: &mut F,
 ) -> Result<Ready, Refusal>
     requires { AreSizes sizes }
+    ensures asks { AsksFor F.Folder (change folder.old folder.new) (src.now ∷ []) }
+    ensures served { OnOk result (HasServed F.Folder (change folder.old folder.new)) }
     ensures same { IsUnchanged F.Folder (change folder.old folder.new) }
     ensures keeps { F.keep_faults folder.new ≡ F.keep_faults folder.old }
     ensures translated { IfOk result (λ ready. IsTranslated F.Folder (change folder.old folder.new) src.now ready.bytes.items) }
@@ -140,6 +146,8 @@ pub fn keep<F: Folder>(
     bytes: &[u8],
     folder: &mut F,
 ) -> Result<(), Refusal>
+    ensures asks { AsksFor F.Folder (change folder.old folder.new) [] }
+    ensures served { OnOk result (HasServed F.Folder (change folder.old folder.new)) }
     ensures kept { OnOk result (Keeps F.Folder (change folder.old folder.new) img.now bytes.now) }
     ensures same { OnErr result (IsUnchanged F.Folder (change folder.old folder.new)) }
     ensures refused { IfErr result (KeepCause F.Folder (change folder.old folder.new)) }
@@ -158,6 +166,8 @@ pub fn compile_and_keep<F: Folder>(
     img: &str,
     folder: &mut F,
 ) -> Result<(), Refusal>
+    ensures asks { AsksFor F.Folder (change folder.old folder.new) (src.now ∷ []) }
+    ensures served { OnOk result (HasServed F.Folder (change folder.old folder.new)) }
     ensures compiled { OnOk result ((bytes : List ℕ) × IsCompiled F.Folder (change folder.old folder.new) src.now img.now bytes) }
     ensures same { OnErr result (IsUnchanged F.Folder (change folder.old folder.new)) }
     ensures refused { IfErr result (CompileCause F.Folder (change folder.old folder.new) src.now) }
@@ -187,6 +197,8 @@ fn count(alloc: Global, text: &[u8]) -> Result<Counts, Refusal>
 
 /// Fetches a text and counts its core.
 pub fn fetch_counts<F: Folder>(alloc: Global, src: &str, folder: &mut F) -> Result<Counts, Refusal>
+    ensures asks { AsksFor F.Folder (change folder.old folder.new) (src.now ∷ []) }
+    ensures served { OnOk result (HasServed F.Folder (change folder.old folder.new)) }
     ensures same { IsUnchanged F.Folder (change folder.old folder.new) }
     ensures counted { IfOk result (IsFetchedCounts F.Folder (change folder.old folder.new) src.now) }
     ensures refused { IfErr result (CheckCause F.Folder (change folder.old folder.new) src.now) }

@@ -4,7 +4,7 @@ ghost use Rattle.std.specs.Prelude.{◌≡◌};
 ghost use Rattle.orbit_cli.specs.Changes.{change, Says};
 ghost use Rattle.orbit_cli.specs.Parts.{refusal_line, refusal_status};
 
-use crate::lines::{put_bad_image, put_long, put_over, put_source_fault, put_unread};
+use crate::lines::{put_bad_image, put_long, put_over, put_source_fault, put_text, put_unread};
 use crate::status::Status;
 use image_file::ImageKind;
 use t_base::Memory;
@@ -46,7 +46,7 @@ pub enum Refusal {
     Unbuilt,
     /// The image of its text could not be kept.
     Unkept,
-    /// There was no memory.
+    /// There was no memory, or this stands for what can't arise on a text or an image.
     Memory,
 }
 
@@ -62,6 +62,7 @@ impl From<Memory> for Refusal {
 }
 
 /// Puts the line of a refusal of the file of this name.
+#[tactic(auto, using(crate::proofs::Reports::says))]
 pub fn refuse<E: Sink>(name: &str, refusal: Refusal, err: &mut E) -> Status
     ensures status { result ≡ refusal_status refusal }
     ensures noted { Says E.Sink (change err.old err.new) (refusal_line name.now refusal) }
@@ -88,15 +89,15 @@ pub fn refuse<E: Sink>(name: &str, refusal: Refusal, err: &mut E) -> Status
             Status::BadImage
         }
         Refusal::Unbuilt => {
-            let _ = err.put(b"not built yet\n");
+            let _ = put_text(err, b"not built yet\n");
             Status::Unbuilt
         }
         Refusal::Unkept => {
-            let _ = err.put(b"cannot write\n");
+            let _ = put_text(err, b"cannot write\n");
             Status::WriteFault
         }
         Refusal::Memory => {
-            let _ = err.put(b"out of memory\n");
+            let _ = put_text(err, b"out of memory\n");
             Status::Memory
         }
     }

@@ -1,19 +1,18 @@
 //! What is put of an image, which is of its run or its listing, and of a text that is checked.
 
-ghost use Rattle.std.specs.Prelude.{◌≡◌, ◌<◌, [], get_or, OnOk, OnErr, length};
+ghost use Rattle.std.specs.Prelude.{◌≡◌, ◌<◌, [], get_or, length};
 ghost use Rattle.t_base.specs.declared.faults.Face.{Face};
-ghost use Rattle.t_ports.specs.Causes.{HasCause};
-ghost use Rattle.t_ports.specs.Pieces.{TookFront};
 ghost use Rattle.word_faces.specs.Faces.{shown_of};
 ghost use Rattle.orbit_monitor.specs.Answering.{FaceIsNamed};
 ghost use Rattle.orbit_cli.specs.Lines.{shown_text, value_line, counts_line, write_line};
 ghost use Rattle.orbit_cli.specs.Answer.{full_status, answer_on, printed};
-ghost use Rattle.orbit_cli.specs.Changes.{change, Says};
+ghost use Rattle.orbit_cli.specs.Changes.{change, Says, IsPut, HasTakenAll};
+ghost use Rattle.orbit_cli.specs.Outcome.{IfServed};
 ghost use Rattle.orbit_cli.specs.Parts.{Reports};
 
 use crate::lines::{
     kind_name, put_character_value, put_counts, put_fault, put_full, put_limit, put_number_value,
-    put_stop, put_value,
+    put_stop, put_text, put_value,
 };
 use crate::prepare::Counts;
 use crate::status::Status;
@@ -24,9 +23,7 @@ use t_ports::ports::{Failed, Sink};
 // Puts the line of a symbol by its name.
 fn put_symbol<S: Sink>(boot: &Boot, name: Name, out: &mut S) -> Result<(), Failed>
     requires { name.0 < length boot.now.names }
-    ensures ok { OnOk result (S.took out.old (value_line boot.now.last (get_or boot.now.names name.0 [])) out.new) }
-    ensures part { OnErr result (TookFront S.took out.old (value_line boot.now.last (get_or boot.now.names name.0 [])) out.new) }
-    ensures cause { HasCause (S.faults out.old) (S.faults out.new) result }
+    ensures { IsPut S.Sink (change out.old out.new) (value_line boot.now.last (get_or boot.now.names name.0 [])) result }
 {
     put_value(out, boot.last_byte(), boot.name_of(name))
 }
@@ -34,9 +31,7 @@ fn put_symbol<S: Sink>(boot: &Boot, name: Name, out: &mut S) -> Result<(), Faile
 // Puts the line of a value with this face, behind what the program put.
 fn put_face<S: Sink>(boot: &Boot, face: Face, out: &mut S) -> Result<(), Failed>
     requires { FaceIsNamed boot.now.names face }
-    ensures ok { OnOk result (S.took out.old (value_line boot.now.last (shown_text (shown_of boot.now.names face))) out.new) }
-    ensures part { OnErr result (TookFront S.took out.old (value_line boot.now.last (shown_text (shown_of boot.now.names face))) out.new) }
-    ensures cause { HasCause (S.faults out.old) (S.faults out.new) result }
+    ensures { IsPut S.Sink (change out.old out.new) (value_line boot.now.last (shown_text (shown_of boot.now.names face))) result }
 {
     let last = boot.last_byte();
     match face {
@@ -50,18 +45,20 @@ fn put_face<S: Sink>(boot: &Boot, face: Face, out: &mut S) -> Result<(), Failed>
 }
 
 // Puts the line that something could not be written.
+#[tactic(auto, using(crate::proofs::Reports::says))]
 fn unwritten<E: Sink>(err: &mut E) -> Status
     ensures status { result ≡ Status.WriteFault }
     ensures noted { Says E.Sink (change err.old err.new) write_line }
 {
-    let _ = err.put(b"cannot write\n");
+    let _ = put_text(err, b"cannot write\n");
     Status::WriteFault
 }
 
 // The program halted with this face.
 fn halt<S: Sink, E: Sink>(boot: &Boot, face: Face, out: &mut S, err: &mut E) -> Status
     requires { FaceIsNamed boot.now.names face }
-    ensures { Reports S.Sink E.Sink (change out.old out.new) (change err.old err.new) (printed (value_line boot.now.last (shown_text (shown_of boot.now.names face)))) result }
+    ensures reports { Reports S.Sink E.Sink (change out.old out.new) (change err.old err.new) (printed (value_line boot.now.last (shown_text (shown_of boot.now.names face)))) result }
+    ensures taken { IfServed result (HasTakenAll S.Sink (change out.old out.new)) }
 {
     match put_face(boot, face, out) {
         Ok(()) => Status::Done,
@@ -81,7 +78,8 @@ fn status_of_full(stack: bool) -> Status
 
 /// Runs a loaded program for at most so many instructions, and reports how it ended.
 pub fn finish<S: Sink, E: Sink>(boot: &mut Boot, steps: u64, out: &mut S, err: &mut E) -> Status
-    ensures { Reports S.Sink E.Sink (change out.old out.new) (change err.old err.new) (answer_on boot.old steps) result }
+    ensures reports { Reports S.Sink E.Sink (change out.old out.new) (change err.old err.new) (answer_on boot.old steps) result }
+    ensures taken { IfServed result (HasTakenAll S.Sink (change out.old out.new)) }
 {
     match run(boot, steps, out) {
         End::Sink => unwritten(err),
@@ -105,18 +103,10 @@ pub fn finish<S: Sink, E: Sink>(boot: &mut Boot, steps: u64, out: &mut S, err: &
     }
 }
 
-// Puts a text in one piece.
-fn put_text<S: Sink>(sink: &mut S, text: &[u8]) -> Result<(), Failed>
-    ensures ok { OnOk result (S.took sink.old text.now sink.new) }
-    ensures part { OnErr result (TookFront S.took sink.old text.now sink.new) }
-    ensures cause { HasCause (S.faults sink.old) (S.faults sink.new) result }
-{
-    sink.put(text)
-}
-
 /// Puts a text, and reports whether it was put.
 pub fn print<S: Sink, E: Sink>(text: &[u8], out: &mut S, err: &mut E) -> Status
-    ensures { Reports S.Sink E.Sink (change out.old out.new) (change err.old err.new) (printed text.now) result }
+    ensures reports { Reports S.Sink E.Sink (change out.old out.new) (change err.old err.new) (printed text.now) result }
+    ensures taken { IfServed result (HasTakenAll S.Sink (change out.old out.new)) }
 {
     match put_text(out, text) {
         Ok(()) => Status::Done,
@@ -126,7 +116,8 @@ pub fn print<S: Sink, E: Sink>(text: &[u8], out: &mut S, err: &mut E) -> Status
 
 /// Puts the line of a text's counts, and reports whether it was put.
 pub fn print_counts<S: Sink, E: Sink>(counts: Counts, out: &mut S, err: &mut E) -> Status
-    ensures { Reports S.Sink E.Sink (change out.old out.new) (change err.old err.new) (printed (counts_line counts.nodes counts.weight)) result }
+    ensures reports { Reports S.Sink E.Sink (change out.old out.new) (change err.old err.new) (printed (counts_line counts.nodes counts.weight)) result }
+    ensures taken { IfServed result (HasTakenAll S.Sink (change out.old out.new)) }
 {
     match put_counts(out, counts.nodes, counts.weight) {
         Ok(()) => Status::Done,

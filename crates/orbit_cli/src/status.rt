@@ -26,7 +26,7 @@ pub enum Status {
     FetchFault,
     /// The image could not be kept, or output could not be written.
     WriteFault,
-    /// There was no memory.
+    /// There was no memory, or this stands for what can't arise on a text or an image. No clause says when it comes.
     Memory,
     /// A count of the text is over its limit.
     Limit,

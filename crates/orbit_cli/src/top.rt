@@ -8,17 +8,20 @@ ghost use Rattle.orbit_cli.specs.Command.{view_of, HasBounds};
 ghost use Rattle.orbit_cli.specs.Outcome.{Outcome, CommandOutcome};
 
 use crate::commands::{check, compile_and_run, compile_text, list_image, run_image};
+use crate::lines::put_text;
 use crate::status::Status;
 use crate::words::{Command, read_words};
 use std::alloc::Global;
 use t_ports::ports::{Folder, Sink};
 
 // Puts the usage line.
+#[tactic(auto, using(crate::proofs::Reports::says))]
 fn misused<E: Sink>(err: &mut E) -> Status
     ensures status { result ≡ Status.Usage }
     ensures noted { Says E.Sink (change err.old err.new) usage_line }
 {
-    let _ = err.put(
+    let _ = put_text(
+        err,
         b"usage: orbit compile SRC IMG | run IMG HEAP STACK STEPS | go SRC IMG HEAP STACK STEPS | check SRC | list IMG | trial N STEPS\n",
     );
     Status::Usage

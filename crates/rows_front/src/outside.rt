@@ -180,6 +180,27 @@ fn a_folder_is_no_file(rt: HostRuntime) {
     assert_eq!(rt; folder.keep(alloc, ".", b"x"), Err(KeepFault::Failed));
 }
 
+/// Whether the folder has these bytes under the name, nine at most.
+fn holds<F: Folder>(alloc: Global, folder: &mut F, name: &str, bytes: &[u8]) -> bool {
+    match folder.fetch(alloc, name, 9) {
+        Ok(fetched) => fetched.as_slice() == bytes,
+        Err(_) => false,
+    }
+}
+
+#[test]
+fn names_are_different_files(rt: HostRuntime) -> Result<(), Fail> {
+    let alloc = rt.alloc();
+    let mut folder = DiskFolder::new(&rt);
+    assert_eq!(rt; folder.keep(alloc, "one", b"1"), Ok(()));
+    assert_eq!(rt; folder.keep(alloc, "two", b"22"), Ok(()));
+    assert!(rt; holds(alloc, &mut folder, "one", b"1"));
+    assert!(rt; holds(alloc, &mut folder, "two", b"22"));
+    std::fs::remove_file(&rt, "one")?;
+    std::fs::remove_file(&rt, "two")?;
+    Ok(())
+}
+
 // A device that opens and takes nothing, and a file that nobody may write.
 #[test]
 fn what_takes_nothing_is_not_written(rt: HostRuntime) {

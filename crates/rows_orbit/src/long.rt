@@ -22,6 +22,12 @@ impl Folder for LongFolder {
 
     ghost keep_faults = { λ _. 0 };
 
+    ghost fetched = { λ _ _ _. Unit {0} };
+
+    ghost fetched_nothing = { λ _. tt };
+
+    ghost fetched_both = { λ _ _ _ _ _ _ _. tt };
+
     fn fetch(&mut self, _alloc: Global, _name: &str, cap: usize) -> Result<Vec<u8>, FetchFault> {
         self.asked = cap;
         match cap.checked_add(1) {

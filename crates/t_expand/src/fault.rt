@@ -9,7 +9,7 @@ use t_rows::SyntaxKind;
 pub enum SyntaxFault {
     /// The first refusal of the unit, and where it stands.
     Fault { kind: SyntaxKind, span: Span },
-    /// There was no memory.
+    /// There was no memory, or this stands for what can't arise on a text.
     Memory,
 }
 

@@ -39,7 +39,7 @@ impl FormList {
 
 impl Expansion {
     /// The forms of the core that the forms at top level stand for, if nothing is refused in the unit. Else the first refusal is noted.
-    /// The only error is the want of memory.
+    /// The only error is the want of memory, which would stand for what can't arise on a text too.
     pub fn expand_all(&mut self, tops: &[Top]) -> Result<FormList, Memory>
         ensures kept { (ts : List SpecTop) (defined : List Bound) → IsReady self.old defined → AreTops self.old.shared.names self.old.forms tops.now ts → OnOk result (Keeps self.old self.new) }
         ensures refused { (ts : List SpecTop) (defined : List Bound) → IsReady self.old defined → AreTops self.old.shared.names self.old.forms tops.now ts → self.old.first ≡ None → OnOk result (IsFirstOf (RefusedAmong defined ts) self.new.first) }

@@ -262,7 +262,7 @@ impl Expansion {
     }
 
     /// The form of the core that a form at top level stands for, where nothing was refused so far. Else what is refused is noted. The
-    /// only error is the want of memory.
+    /// only error is the want of memory, which would stand for what can't arise on a text too.
     pub fn expand_top(&mut self, marks: &mut NameMarks, top: &Top) -> Result<Expanded, Memory>
         ensures kept { (t : SpecTop) (defined : List Bound) → IsReady self.old defined → IsTop self.old.shared.names self.old.forms top.now t → OnOk result (Keeps self.old self.new) }
         ensures refused { (before : List SpecTop) (t : SpecTop) (defined : List Bound) → IsReady self.old defined → IsTop self.old.shared.names self.old.forms top.now t → Marks self.old.shared.names marks.old (names_defined before) → OnOk result (IsFirstOf (λ r. (self.old.first ≡ Some r) ⊎ RefusedTop defined before t r) self.new.first) }

@@ -39,6 +39,12 @@ impl Folder for OneFolder {
 
     ghost keep_faults = { λ _. 0 };
 
+    ghost fetched = { λ _ _ _. Unit {0} };
+
+    ghost fetched_nothing = { λ _. tt };
+
+    ghost fetched_both = { λ _ _ _ _ _ _ _. tt };
+
     fn fetch(&mut self, alloc: Global, _name: &str, cap: usize) -> Result<Vec<u8>, FetchFault>
         // Its bytes stand under each name, and can be read.
         ensures gives { GivesBytes (Some self.old) cap result }

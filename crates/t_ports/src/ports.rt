@@ -1,5 +1,5 @@
 // The traits, with what they mean.
-ghost use Rattle.std.specs.Prelude.{◌≡◌, ◌+◌, ◌≤◌, List, ℕ, [], ◌++◌, length, take, IfOk, IfErr, OnOk, OnErr, Option};
+ghost use Rattle.std.specs.Prelude.{◌≡◌, ◌+◌, ◌≤◌, List, ℕ, [], ◌∷◌, ◌++◌, length, take, IfOk, IfErr, OnOk, OnErr, Option};
 ghost use Rattle.t_ports.specs.Causes.{HasCause};
 ghost use Rattle.t_ports.specs.Files.{Files, IfTold, IfBothTold, IsSame, Puts, FetchCause, KeepCause, FetchFails};
 
@@ -36,6 +36,9 @@ pub trait Folder {
     /// How many keeps failed, counted alike.
     ghost keep_faults: { Self → ℕ };
 
+    /// The folder before became the folder after by fetches of exactly these names, in this order, and by keeps.
+    ghost fetched: { Self → List (List ℕ) → Self → Type 0 };
+
     /// The bytes under the name, at most `cap` of them.
     fn fetch(&mut self, alloc: Global, name: &str, cap: usize) -> Result<Vec<u8>, FetchFault>
         ensures same { IfBothTold (files self.old) (files self.new) IsSame }
@@ -45,7 +48,8 @@ pub trait Folder {
         ensures later { fetch_faults self.old ≤ fetch_faults self.new }
         ensures cause { IfErr result (FetchCause (fetch_faults self.old) (fetch_faults self.new)) }
         ensures counts_stand { OnOk result (fetch_faults self.new ≡ fetch_faults self.old) }
-        ensures keeps { keep_faults self.new ≡ keep_faults self.old };
+        ensures keeps { keep_faults self.new ≡ keep_faults self.old }
+        ensures asks { fetched self.old (name.now ∷ []) self.new };
 
     /// Puts the bytes under the name, in the place of those that are there. Where this fails, what is told of the content stays.
     fn keep(&mut self, alloc: Global, name: &str, bytes: &[u8]) -> Result<(), KeepFault>
@@ -54,7 +58,14 @@ pub trait Folder {
         ensures later { keep_faults self.old ≤ keep_faults self.new }
         ensures cause { IfErr result (KeepCause (keep_faults self.old) (keep_faults self.new)) }
         ensures counts_stand { OnOk result (keep_faults self.new ≡ keep_faults self.old) }
-        ensures fetches { fetch_faults self.new ≡ fetch_faults self.old };
+        ensures fetches { fetch_faults self.new ≡ fetch_faults self.old }
+        ensures asks_nothing { fetched self.old [] self.new };
+
+    /// No call fetches nothing.
+    ghost fetched_nothing: { (folder : Self) → fetched folder [] folder };
+
+    /// Fetches behind each other are those of both.
+    ghost fetched_both: { (a b c : Self) (first second : List (List ℕ)) → fetched a first b → fetched b second c → fetched a (first ++ second) c };
 }
 
 /// A put failed.

@@ -1,12 +1,22 @@
 use Rattle.std.proofs.Common.{refl}
 use Rattle.orbit_cli.specs.Changes.{change}
 use Rattle.orbit_cli.proofs.Outcomes.{run_refused, reported}
+use Rattle.orbit_cli.proofs.Served.{if_served, refused_serves}
 use Rattle.orbit_cli.proofs.commands.run_image.Goals as goal
 
-pub returns-in-Ok : goal.returns-in-Ok
-returns-in-Ok g c =
-    reported g.F.Folder g.S.Sink g.E.Sink (change c.args.folder.now c.load_image.new.folder) (change c.args.out.now c.finish.new.out) (change c.args.err.now c.finish.new.err) c.args.img.now c.args.bounds c.in-Ok.ensures.same _ c.in-Ok.ensures.loaded c.finish.result c.finish.ensures
+pub returns-in-Ok-clause-outcome : goal.returns-in-Ok-clause-outcome
+returns-in-Ok-clause-outcome g c =
+    reported g.F.Folder g.S.Sink g.E.Sink (change c.args.folder.now c.load_image.new.folder) (change c.args.out.now c.finish.new.out) (change c.args.err.now c.finish.new.err) c.args.img.now c.args.bounds c.in-Ok.ensures.same _ c.in-Ok.ensures.loaded c.finish.result c.finish.ensures.reports
 
-pub returns-in-Err : goal.returns-in-Err
-returns-in-Err g c =
+pub returns-in-Err-clause-outcome : goal.returns-in-Err-clause-outcome
+returns-in-Err-clause-outcome g c =
     run_refused g.F.Folder g.S.Sink g.E.Sink (change c.args.folder.now c.load_image.new.folder) (change c.args.out.now c.args.out.now) (change c.args.err.now c.refuse.new.err) c.args.img.now c.args.bounds c.in-Err.refusal c.refuse.result refl c.in-Err.ensures.same c.in-Err.ensures.refused c.refuse.ensures.status c.refuse.ensures.noted
+
+pub returns-in-Ok-clause-served : goal.returns-in-Ok-clause-served
+returns-in-Ok-clause-served g c = if_served c.finish.result _ c.in-Ok.ensures.served
+
+pub returns-in-Err-clause-served : goal.returns-in-Err-clause-served
+returns-in-Err-clause-served g c = refused_serves c.in-Err.refusal c.refuse.result _ c.refuse.ensures.status
+
+pub returns-in-Err-clause-taken : goal.returns-in-Err-clause-taken
+returns-in-Err-clause-taken g c = refused_serves c.in-Err.refusal c.refuse.result _ c.refuse.ensures.status
