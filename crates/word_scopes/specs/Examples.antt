@@ -1,17 +1,28 @@
--- A program that meets a variable without a word.
-use Rattle.std.specs.Prelude.{ℕ}
+-- Programs that meet a variable without a word.
+use Rattle.std.specs.Prelude.{ℕ, List, [], ◌∷◌, refl}
 use Rattle.std.specs.Global.{Global}
 use Rattle.program_runs.specs.Follows.{after}
+use Rattle.word_ir.specs.declared.placed.Home.{Home}
+use Rattle.word_ir.specs.declared.placed.Home.TheVariants.{D, A}
+use Rattle.word_ir.specs.declared.words.StaticWord.TheVariants as first
 use Rattle.word_ir.specs.declared.words.Words.{Words}
-use Rattle.word_ir.specs.Rows.{small}
-use Rattle.word_ir.specs.State.{start}
-use Rattle.word_ir.specs.Step.{step, words_in}
+use Rattle.word_ir.specs.Rows.{small, unbound}
+use Rattle.word_ir.specs.State.{Setting, start}
+use Rattle.word_ir.specs.Step.{step}
+use Rattle.word_ir.specs.Writing.{vec_of}
 use Rattle.word_scopes.specs.Ahead.{EntersShort, MeetsUnbound}
 
 -- behind so many steps an Enter brings too little, and behind so many a variable without a word is used
-pub record MeetsUnboundAt (words : Words) (entered met : ℕ) : Type 0 where
-  pub short : EntersShort (words_in words small) (after (step (words_in words small)) entered (start (words_in words small)))
-  pub meets : MeetsUnbound (words_in words small) (after (step (words_in words small)) met (start (words_in words small)))
+pub record MeetsUnboundIn (m : Setting) (entered met : ℕ) : Type 0 where
+  pub short : EntersShort m (after (step m) entered (start m))
+  pub meets : MeetsUnbound m (after (step m) met (start m))
 
-abbrev pub MeetsUnboundBehind : (Global → Words) → ℕ → ℕ → Type 0
-MeetsUnboundBehind words entered met = (alloc : Global) → MeetsUnboundAt (words alloc) entered met
+abbrev pub MeetsUnboundAt : (Global → Words) → List Home → ℕ → ℕ → Type 0
+MeetsUnboundAt words homes entered met = (alloc : Global) → MeetsUnboundIn (record { words = words alloc; homes = homes; sizes = small }) entered met
+
+-- the same program with one more static word, since with homes their count is even
+abbrev pub unbound_at_home : Global → Words
+unbound_at_home alloc = record (unbound alloc) { statics = vec_of alloc (first.Code 1 ∷ first.Word 0 ∷ []) refl }
+
+abbrev pub three_homes : List Home
+three_homes = D 0 ∷ A 1 ∷ D 2 ∷ []

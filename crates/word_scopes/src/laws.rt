@@ -1,8 +1,8 @@
 //! What whole programs of words have at hand.
 
-ghost use Rattle.std.specs.Prelude.{[], ◌∷◌, refl};
-ghost use Rattle.word_ir.specs.Rows.{Breaks, IsWholeProgram, unbound};
-ghost use Rattle.word_scopes.specs.Examples.{MeetsUnboundBehind};
+ghost use Rattle.std.specs.Prelude.{[], refl};
+ghost use Rattle.word_ir.specs.Rows.{Breaks, BreaksAt, IsWholeAt, IsWholeProgram, unbound};
+ghost use Rattle.word_scopes.specs.Examples.{MeetsUnboundAt, three_homes, unbound_at_home};
 ghost use Rattle.word_scopes.specs.Laws.{VariablesHaveWords};
 
 /// In the run of a whole program of words, each variable that the rest of the present block uses has a word, unless an Enter with fewer
@@ -14,6 +14,13 @@ pub fn variables_have_words()
 /// A whole program with such an Enter: its code uses the parameter for which no argument came, and breaks.
 pub fn a_call_brings_too_little()
     ensures whole { IsWholeProgram unbound }
-    ensures meets { MeetsUnboundBehind unbound 1 2 }
+    ensures meets { MeetsUnboundAt unbound [] 1 2 }
     ensures breaks { Breaks unbound 3 }
+{}
+
+/// The same with a register for each variable.
+pub fn a_home_stays_empty()
+    ensures whole { IsWholeAt unbound_at_home three_homes refl }
+    ensures meets { MeetsUnboundAt unbound_at_home three_homes 1 2 }
+    ensures breaks { BreaksAt unbound_at_home three_homes 3 }
 {}
