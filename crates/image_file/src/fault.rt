@@ -23,7 +23,7 @@ pub enum ImageKind {
 pub enum ImageFault {
     /// The first field that fails, and the offset of the byte at which it does.
     Fault { kind: ImageKind, at: u32 },
-    /// There was no memory.
+    /// The want of memory; no clause says when it comes.
     Memory,
 }
 

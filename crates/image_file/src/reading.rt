@@ -129,12 +129,12 @@ fn image_of(alloc: Global, bytes: &[u8]) -> Result<Image, ImageFault>
 }
 
 /// The image that the bytes spell, all of the bytes. Where they spell none: the first field that fails, in the order of
-/// `ImageKind`, fields by offset, then names; `at` is its offset. `Memory` comes only where memory ran out.
+/// `ImageKind`, fields by offset, then names; `at` is its offset. `Memory` is the want of memory; no clause says when it comes.
 pub fn read_image(alloc: Global, bytes: &[u8]) -> Result<Image, ImageFault>
     requires { length bytes.now ≤ 2 ^ 29 }
     // What is read is spelled so.
     ensures found { IfOk result (λ image. IsImageOf bytes.now (parts_of image)) }
-    // What is spelled so is read, unless memory runs out.
+    // What is spelled so is read, but for want of memory.
     ensures only { (image : Parts) → IsImageOf bytes.now image → Gives parts_of result (Ok image) }
     // Which field is the first that fails.
     ensures fault { Gives parts_of result (image_at bytes.now) }

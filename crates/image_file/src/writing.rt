@@ -58,7 +58,7 @@ fn put_header(out: &mut Vec<u8>, image: &Image, part: &[u8]) -> Result<(), Memor
     put_numbers(out, &numbers)
 }
 
-/// The one spelling of the image, at most 2^29 bytes. An error means that memory ran out.
+/// The one spelling of the image, at most 2^29 bytes. The only error is the want of memory.
 pub fn write_image(alloc: Global, image: &Image) -> Result<Vec<u8>, Memory>
     requires { IsImage (parts_of image.now) }
     ensures spelled { IfOk result (λ bytes. IsImageOf bytes.items (parts_of image.now)) }

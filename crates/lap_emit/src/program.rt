@@ -115,7 +115,7 @@ fn emit_items(alloc: Global, placed: &Placed) -> Result<Vec<Item>, Memory>
 /// is taken, its operations, and its end. `assemble` takes them where they are short enough, as they are when the table of `lap_shapes`
 /// gives no more than 2^28 bytes.
 ///
-/// It takes time linear in the program. An error means that memory ran out, or that there are more blocks than numbers of labels.
+/// It takes time linear in the program. The only error is the want of memory, which also stands for more blocks than numbers of labels.
 pub fn emit(alloc: Global, placed: &Placed) -> Result<Vec<Item>, Memory>
     requires { IsWholePlaced placed.now }
     ensures items { IfOk result (λ items. IsEmitted placed.now items.items) }

@@ -16,7 +16,7 @@ use m68020_code::Width;
 use std::alloc::Global;
 use t_base::Memory;
 
-/// The code of the items: each branch with the smallest width, each label at its address. An error means that memory ran out.
+/// The code of the items: each branch with the smallest width, each label at its address. The only error is the want of memory.
 ///
 /// The items are swept in both directions in turn, until no branch grows. Each sweep takes time linear in the items. Usual code
 /// needs a few; at most there are two in each direction for each branch, and one more.

@@ -71,7 +71,7 @@ fn put_first(out: &mut Vec<u8>, at: u32, bytes: &[u8]) -> Result<usize, Memory>
 
 /// The listing of an image's code: a line for each instruction, and one for each word at which no instruction stands.
 ///
-/// The code has a length that the image format allows. An error means that memory ran out.
+/// The code has a length that the image format allows. The only error is the want of memory.
 pub fn listing(alloc: Global, image: &Image) -> Result<Vec<u8>, Memory>
     requires even { length image.now.code.items % 2 ≡ 0 }
     requires some { 2 ≤ length image.now.code.items }

@@ -12,7 +12,7 @@ pub enum FetchFault {
     Failed,
     /// There are more of them than the cap, and so many were read.
     Long { read: usize },
-    /// There was no memory.
+    /// The want of memory; no clause says when it comes.
     Memory,
 }
 
@@ -21,7 +21,7 @@ pub enum FetchFault {
 pub enum KeepFault {
     /// They could not be written.
     Failed,
-    /// There was no memory.
+    /// The want of memory; no clause says when it comes.
     Memory,
 }
 

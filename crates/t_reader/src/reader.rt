@@ -202,7 +202,7 @@ fn read_text(alloc: Global, text: &[u8]) -> Result<Unit, ReadFault>
 /// The data of a text of at most 2^20 bytes, or its first fault.
 ///
 /// `Ok` is the reading of the text, a whole unit. `Err(Fault)` is the first fault of the text, and comes exactly where
-/// there is one. `Err(Memory)` comes only where memory ran out.
+/// there is one. `Err(Memory)` is the want of memory; no clause says when it comes.
 pub fn read_unit(alloc: Global, text: &[u8]) -> Result<Unit, ReadFault>
     requires { length text.now ≤ 2 ^ 20 }
     ensures data { IfOk result (λ u. IsUnitOf text.now u) }
