@@ -96,32 +96,29 @@ module _ (a : Assembly) (m : Setting) (housed : IsHoused m) where
   unfolding access_items access_of
   access_goes n s t (operand.Word k) at z items Q place is usable word small near stands rest =
       let same : k ≡ at = cc in
-      let there : sum_of k (unsigned z) ≡ moved at z = ap (λ (x : ℕ). sum_of x (unsigned z)) same ∙ address_moved at z (subst (λ (x : ℕ). x < 2 ^ 32) same usable) small near in
+      let there : sum_of k (unsigned z) ≡ moved at z = ap (λ (x : ℕ). sum_of x (unsigned z)) same ∙ address_moved at z small near in
       widen a (suc n) (suc (suc (suc n))) t Q (omega arith) (omega arith)
       (rest t (record { storage = refl; numbers = λ i lt ne. refl; addresses = λ i ne. refl }) (subst (Places t (Abs (sum_of k (unsigned z)))) there (absolute_places t (sum_of k (unsigned z)))) stands)
   access_goes n s t (operand.Static p) at z items Q place is usable word small near stands rest =
       let same : static_at p ≡ at = cc in
-      let lt : at < 2 ^ 32 = omega (arith, same) in
-      let there : sum_of (static_at p) (unsigned z) ≡ moved at z = ap (λ (x : ℕ). sum_of x (unsigned z)) same ∙ address_moved at z lt small near in
+      let there : sum_of (static_at p) (unsigned z) ≡ moved at z = ap (λ (x : ℕ). sum_of x (unsigned z)) same ∙ address_moved at z small near in
       widen a (suc n) (suc (suc (suc n))) t Q (omega arith) (omega arith)
       (rest t (record { storage = refl; numbers = λ i lt ne. refl; addresses = λ i ne. refl }) (subst (Places t (Abs (sum_of (static_at p) (unsigned z)))) there (absolute_places t (sum_of (static_at p) (unsigned z)))) stands)
   access_goes n s t (operand.Code block) at z items Q place is usable word small near stands rest = absurd (cc)
   access_goes n s t (operand.Var v) at z items Q place is usable word small near stands rest =
       let h = usable.0 in
       let has = variable_has a m housed s t v.0 (Number at) h is usable.1 word in
-      let known = (is.homes v.0 h (Number at) usable.1 (sym (ap (λ (o : Option Home). held s (option_map_or At o (Own v.0))) usable.1) ∙ word)).1 in
       let same : home_of m.homes v ≡ h = get_or_from_slice_get m.homes v.0 h (home.D 0) usable.1 in
       let here : Stands a t (base_items h ++ (far_items z (unsigned z) ++ items)) =
       subst (Stands a t) (append_assoc (base_items h) (far_items z (unsigned z)) items) (subst (λ x. Stands a t ((base_items x ++ far_items z (unsigned z)) ++ items)) same stands) in
       base_goes (suc n) s t v.0 h at (far_items z (unsigned z) ++ items) Q place is usable.1 has here
       (λ u beside base stands2.
-      let there : sum_of (address_at u.registers (base_of h)) (unsigned z) ≡ moved at z = ap (λ (x : ℕ). sum_of x (unsigned z)) base ∙ address_moved at z known small near in
+      let there : sum_of (address_at u.registers (base_of h)) (unsigned z) ≡ moved at z = ap (λ (x : ℕ). sum_of x (unsigned z)) base ∙ address_moved at z small near in
       far_goes n u (base_of h) z (unsigned z) (moved at z) items Q there there stands2
       (λ w more places stands3. rest w (beside_trans 6 t u w (beside_none 6 t u beside) more) (subst (λ x. Places w (from_register (base_of x) z) (moved at z)) (sym same) places) stands3))
   access_goes n s t (operand.Slot bytes) at z items Q place is usable word small near stands rest =
       let same : wrap (s.top + bytes) ≡ at = cc in
-      let lt : at < 2 ^ 32 = omega (arith, same) in
-      let there : sum_of (address_at t.registers 7) (sum_of bytes (unsigned z)) ≡ moved at z = omega (arith, is.top, same, address_moved at z lt small near) in
+      let there : sum_of (address_at t.registers 7) (sum_of bytes (unsigned z)) ≡ moved at z = omega (arith, is.top, same, address_moved at z small near) in
       let direct : sum_of (address_at t.registers 7) (unsigned (pos bytes +ℤ z)) ≡ moved at z = slot_moved bytes z (address_at t.registers 7) usable small ∙ there in
       widen a (suc (suc n)) (suc (suc (suc n))) t Q (omega arith) (omega arith)
       (far_goes n t 7 (pos bytes +ℤ z) (sum_of bytes (unsigned z)) (moved at z) items Q direct there stands rest)

@@ -7,3 +7,5 @@ pub mod Stack
 pub mod Sums
 pub mod Quotients
 pub mod Lines
+pub mod Bytes
+pub mod LoadBytes

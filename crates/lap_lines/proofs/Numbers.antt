@@ -11,15 +11,20 @@ use Rattle.m68020_code.specs.Table.{fits as fits_half}
 use Rattle.m68020_step.specs.Word.{sum_of, difference_of, product_of}
 
 -- an address that is so far from another one, where it is one
-pub address_moved : (n : ℕ) (z : ℤ) → n < 2 ^ 32 → is_signed (2 ^ 31) z ≡ true → moved n z < 2 ^ 32 → sum_of n (unsigned z) ≡ moved n z
-address_moved n (pos k) lt small near =
+pub address_moved : (n : ℕ) (z : ℤ) → is_signed (2 ^ 31) z ≡ true → moved n z < 2 ^ 32 → sum_of n (unsigned z) ≡ moved n z
+address_moved n (pos k) small near =
     let a : unsigned (pos k) ≡ k = refl in
     let b : moved n (pos k) ≡ n + k = refl in
-    omega (arith, lt, ltb-true k (2 ^ 31) small, near, a, b)
-address_moved n (negsuc k) lt small near = elim (leb_tells (suc n) (suc k)) [
-  | inl p ↦ rw p.0 (omega (arith, lt, p.1, ltb-true k (2 ^ 31) small))
-  | inr p ↦ rw p.0 (omega (arith, lt, p.1, ltb-true k (2 ^ 31) small))
+    omega (arith, ltb-true k (2 ^ 31) small, near, a, b)
+address_moved n (negsuc k) small near = elim (leb_tells (suc n) (suc k)) [
+  | inl p ↦ rw p.0 (omega (arith, p.1, ltb-true k (2 ^ 31) small))
+  | inr p ↦
+      let there : moved n (negsuc k) ≡ n - suc k = rw p.0 refl in
+      there_is n k p.1 (ltb-true k (2 ^ 31) small) (omega (arith, near, there)) ∙ sym there
 ]
+  where
+    there_is : (n k : ℕ) → suc k < suc n → k < 2 ^ 31 → n - suc k < 2 ^ 32 → sum_of n (unsigned (negsuc k)) ≡ n - suc k
+    there_is n k le small near = omega arith
 
 -- so far from a slot
 pub slot_moved : (bytes : ℕ) (z : ℤ) (top : ℕ) → bytes < 2 ^ 32 → is_signed (2 ^ 31) z ≡ true → sum_of top (unsigned (pos bytes +ℤ z)) ≡ sum_of top (sum_of bytes (unsigned z))
