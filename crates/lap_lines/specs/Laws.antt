@@ -42,6 +42,9 @@ LoadsArrive = (to : Var) (base : Operand) (offset : ℤ) → LineArrives 3 (op.L
 abbrev pub StoresArrive : Type 0
 StoresArrive = (base from : Operand) (offset : ℤ) → LineArrives 6 (op.Store base offset from)
 
+abbrev pub BytesArrive : Type 0
+BytesArrive = (to : Var) (base index : Operand) (offset : ℤ) → LineArrives 11 (op.LoadByte to base index offset)
+
 abbrev pub TakesArrive : Type 0
 TakesArrive = (to : Var) (bytes : Operand) (full : ℕ) → LineArrives 10 (op.Take to bytes full)
 
