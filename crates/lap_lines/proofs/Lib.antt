@@ -9,3 +9,5 @@ pub mod Quotients
 pub mod Lines
 pub mod Bytes
 pub mod LoadBytes
+pub mod ShiftNumbers
+pub mod Shifts

@@ -41,7 +41,7 @@ pub same_fits : (z : ℤ) → fits_half (2 ^ 31) z ≡ fits z
 same_fits (pos n) = refl
 same_fits (negsuc n) = refl
 
-fits_signed : (z : ℤ) → fits z ≡ true → FitsSigned w32 z
+pub fits_signed : (z : ℤ) → fits z ≡ true → FitsSigned w32 z
 fits_signed (pos n) e = record { sfits = ltb-true n (2 ^ 31) e }
 fits_signed (negsuc n) e = record { sfits = ltb-true n (2 ^ 31) e }
 
