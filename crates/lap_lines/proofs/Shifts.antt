@@ -1,7 +1,8 @@
 -- Shifts: by 8 bits at most at a time.
-use Rattle.std.proofs.Common.{◌≡◌, ℕ, zero, suc, ◌+◌, ◌*◌, ◌/◌, ◌%◌, ◌^◌, ◌<◌, ◌≤◌, ◌==◌, ◌||◌, Bool, true, false, not, List, [], ◌∷◌, ◌++◌, Some, inl, inr, refl, ap, sym, subst, ◌∙◌, arith, append_assoc}
+use Rattle.std.proofs.Common.{◌≡◌, ℕ, zero, suc, ◌+◌, ◌-◌, ◌*◌, ◌/◌, ◌%◌, ◌^◌, ◌<◌, ◌≤◌, ◌==◌, ◌||◌, Bool, true, false, not, List, [], ◌∷◌, ◌++◌, Some, inl, inr, refl, ap, sym, subst, ◌∙◌, arith, append_assoc}
 use Rattle.std.specs.Prelude.{if◌then◌else◌, ℤ, pos, negsuc, ◌*ℤ◌, min}
-use Rattle.std.specs.Int.{int_shr}
+use Rattle.std.specs.Int.{w32, int_shr}
+use Rattle.std.proofs.lemmas.Int.{of_z-to_z}
 use Rattle.std.proofs.lemmas.Bool.{eqb-true}
 use Rattle.std.proofs.lemmas.Bool.Decides.{leb_tells}
 use Rattle.t_base.specs.declared.basics.Var.{Var}
@@ -126,3 +127,71 @@ module _ (a : Assembly) (m : Setting) (s : WordState) (housed : IsHoused m) (pla
             let all : 8 * (c / 8) + c % 8 ≡ c = omega arith in
             left_part 1 (c % 8) (8 * (c / 8)) 0 u here (omega arith) at_u has kept stands2
             (λ v at_v had kept2 stands3. rest v at_v (had ∙ ap (λ (k : ℕ). wrap (i * 2 ^ k)) all) (ap (λ (k : ℕ). sign_changes k i) (sym all) ∙ kept2) stands3)
+
+-- ---- the whole shift
+
+left_all : (i n : ℕ) → i < 2 ^ 32 → (sign_changes (min n 32) i ≡ not (fits (signed i *ℤ pos (2 ^ n)))) × (fits (signed i *ℤ pos (2 ^ n)) ≡ true → wrap (i * 2 ^ min n 32) ≡ unsigned (signed i *ℤ pos (2 ^ n)))
+left_all i n lt = elim (leb_tells n 32) [
+  | inl p ↦
+      let all : min n 32 ≡ n = omega (arith, p.1) in
+      (ap (λ (k : ℕ). sign_changes k i) all ∙ overflow_is n i lt ∙ ap not (sym (fits_left i n lt)),
+      λ h. ap (λ (k : ℕ). wrap (i * 2 ^ k)) all ∙ value_left i n lt (sym (fits_left i n lt) ∙ h))
+  | inr p ↦
+      let most : min n 32 ≡ 32 = omega (arith, p.1) in
+      let behind : 32 + (n - 32) ≡ n = omega (arith, p.1) in
+      let none : wrap (i * 2 ^ 32) ≡ 0 = omega arith in
+      let zeros : wrap (0 * 2 ^ (n - 32)) ≡ 0 = omega arith in
+      (ap (λ (k : ℕ). sign_changes k i) most ∙ overflow_is 32 i lt ∙ ap not (sym (left_most i n lt (omega (arith, p.1))) ∙ sym (fits_left i n lt)),
+      λ h. ap (λ (k : ℕ). wrap (i * 2 ^ k)) most ∙ none ∙ sym zeros ∙ ap (λ (x : ℕ). wrap (x * 2 ^ (n - 32))) (sym none) ∙ wrapped_more i 32 (n - 32) ∙ ap (λ (k : ℕ). wrap (i * 2 ^ k)) behind
+      ∙ value_left i n lt (sym (fits_left i n lt) ∙ h))
+]
+
+unshifted : (z : ℤ) → int_shr z 0 ≡ z
+unshifted (pos b) = ap pos (omega arith)
+unshifted (negsuc b) = ap negsuc (omega arith)
+
+right_all : (i n : ℕ) → i < 2 ^ 32 → unsigned (int_shr (signed i) (min (n + 1) 31)) ≡ unsigned (int_shr (signed i) (suc n))
+right_all i n lt = elim (leb_tells (suc n) 31) [
+  | inl p ↦ let all : min (n + 1) 31 ≡ suc n = omega (arith, p.1) in ap (λ (k : ℕ). unsigned (int_shr (signed i) k)) all
+  | inr p ↦ let most : min (n + 1) 31 ≡ 31 = omega (arith, p.1) in ap (λ (k : ℕ). unsigned (int_shr (signed i) k)) most ∙ ap unsigned (sym (right_most i (suc n) lt (omega (arith, p.1))))
+]
+
+module _ (a : Assembly) (m : Setting) (s : WordState) (housed : IsHoused m) (place : IsInPlace m s) (t : State) (items : List Item) (to : Var) (x y : Operand) (over : ℕ) (is : Represents m a.labels s t) (has : HasHome m to) (usable_x : IsUsable m x) where
+  lefts : (u : State) (i n : ℕ) (b : Bool) → fits (signed i *ℤ pos (2 ^ n)) ≡ b → i < 2 ^ 32 → Represents m a.labels s u → data_at u.registers 7 ≡ i → Stands a u (left_items over (min n 32) ++ put_into (D 7) (home_of m.homes to) ∷ items)
+      → Arrives a m s u items 11 (bind_result m s to over (if b then Gives (unsigned (signed i *ℤ pos (2 ^ n))) else Over))
+  lefts u i n true e lt at_u there stands =
+      let whole = left_all i n lt in
+      kept_arrives a m s u items 11 (keeper_of m.homes to) (λ k. Binds k (Number (unsigned (signed i *ℤ pos (2 ^ n))))) (λ room.
+      left_goes a m s housed place i lt (Behind a m (changed s (Binds (keeper_of m.homes to) (Number (unsigned (signed i *ℤ pos (2 ^ n)))))) items) (min n 32) over
+      (λ h v pc at_v at. let no_change : sign_changes (min n 32) i ≡ false = whole.0 ∙ ap not e in absurd (cc))
+      u (put_into (D 7) (home_of m.homes to) ∷ items) (omega arith) at_u (there ∙ omega (arith, lt)) stands
+      (λ v at_v had kept stands2. number_bound a m s housed place v items to 7 (wrap (i * 2 ^ min n 32)) (unsigned (signed i *ℤ pos (2 ^ n))) has at_v had (whole.1 e) stands2 room))
+  lefts u i n false e lt at_u there stands =
+      let whole = left_all i n lt in
+      left_goes a m s housed place i lt (Opened a m s over) (min n 32) over (λ h v pc at_v at. opened a m s housed place v over pc at_v at)
+      u (put_into (D 7) (home_of m.homes to) ∷ items) (omega arith) at_u (there ∙ omega (arith, lt)) stands
+      (λ v at_v had kept stands2. let change : sign_changes (min n 32) i ≡ true = whole.0 ∙ ap not e in absurd (cc))
+
+  rights : (u : State) (i n : ℕ) → i < 2 ^ 32 → Represents m a.labels s u → data_at u.registers 7 ≡ i → Stands a u (right_items (min (n + 1) 31) ++ put_into (D 7) (home_of m.homes to) ∷ items)
+      → Arrives a m s u items 11 (binds m s to (Number (unsigned (int_shr (signed i) (suc n)))))
+  rights u i n lt at_u there stands =
+      kept_arrives a m s u items 11 (keeper_of m.homes to) (λ k. Binds k (Number (unsigned (int_shr (signed i) (suc n))))) (λ room.
+      let Q : State → Type 0 = Behind a m (changed s (Binds (keeper_of m.homes to) (Number (unsigned (int_shr (signed i) (suc n)))))) items in
+      widen a 5 11 u Q (omega arith) (omega arith)
+      (right_goes a m s housed place i lt Q (min (n + 1) 31) u (put_into (D 7) (home_of m.homes to) ∷ items) (omega arith) at_u (there ∙ sym (ap unsigned (unshifted (signed i)) ∙ of_z-to_z w32 i lt)) stands
+      (λ v at_v had stands2. number_bound a m s housed place v items to 7 (unsigned (int_shr (signed i) (min (n + 1) 31))) (unsigned (int_shr (signed i) (suc n))) has at_v had (right_all i n lt) stands2 room)))
+
+  pub shift_line : (count : ℤ) → Stands a t (op_items m.homes (op.Arith to (kind.Shift count) x y over) ++ items) → Arrives a m s t items 14 (op_effect m s (op.Arith to (kind.Shift count) x y over))
+  unfolding computing_items
+  shift_line (pos n) stands =
+      number_arrives a m s t items 14 x (λ i. bind_result m s to over (fitted (signed i *ℤ pos (2 ^ n)))) (λ i word.
+      loaded a m s housed place t x 7 i 11 (left_items over (min n 32) ++ put_into (D 7) (home_of m.homes to) ∷ items) items (bind_result m s to over (fitted (signed i *ℤ pos (2 ^ n)))) (omega arith) (omega arith) is usable_x word
+      (parted a m s housed place t to (kind.Shift (pos n)) x y over items stands)
+      (λ u p. lefts u i n (fits (signed i *ℤ pos (2 ^ n))) refl (omega (arith, p.3.range.registers.d 7, p.2)) p.0 p.2 p.3))
+  shift_line (negsuc n) stands =
+      number_arrives a m s t items 14 x (λ i. bind_result m s to over (fitted (int_shr (signed i) (suc n)))) (λ i word.
+      loaded a m s housed place t x 7 i 11 (right_items (min (n + 1) 31) ++ put_into (D 7) (home_of m.homes to) ∷ items) items (bind_result m s to over (fitted (int_shr (signed i) (suc n)))) (omega arith) (omega arith) is usable_x word
+      (parted a m s housed place t to (kind.Shift (negsuc n)) x y over items stands)
+      (λ u p.
+      let lt : i < 2 ^ 32 = omega (arith, p.3.range.registers.d 7, p.2) in
+      subst (λ b. Arrives a m s u items 11 (bind_result m s to over (if b then Gives (unsigned (int_shr (signed i) (suc n))) else Over))) (sym (right_fits i (suc n) lt)) (rights u i n lt p.0 p.2 p.3)))

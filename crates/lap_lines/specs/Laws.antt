@@ -70,3 +70,7 @@ pub record SumsArrive : Type 0 where
   pub remainder : ArithArrives 9 kind.Remainder
   pub both : ArithArrives 8 kind.And
   pub either : ArithArrives 8 kind.Or
+
+-- to the left, and to the right where the count is negative
+abbrev pub ShiftsArrive : Type 0
+ShiftsArrive = (count : ℤ) → ArithArrives 14 (kind.Shift count)
