@@ -42,7 +42,7 @@ use Rattle.lap_lines.specs.Arrives.{Behind}
 use Rattle.lap_lines.proofs.Arriving.{alike}
 use Rattle.lap_lines.proofs.Alu.{gives, does_subtract}
 use Rattle.lap_services.specs.Tells.{Tells, EndsSo, Serves}
-use Rattle.lap_services.specs.Laws.{CharactersArrive, FixnumsArrive, FaultsArrive}
+use Rattle.lap_services.specs.Laws.{CharactersArrive, FixnumsArrive, FaultsArrive, RoomReported}
 use Rattle.lap_services.proofs.Telling.{trap_ends, trap_puts, before}
 
 number_is : (w : Word) (x : ℕ) → number_of w ≡ Some x → w ≡ Number x
@@ -152,6 +152,53 @@ module _ (a : Assembly) (m : Setting) (s : WordState) (housed : IsHoused m) (pla
       (fourth.addresses 4 (λ eq. absurd (omega (arith, eq))) ∙ third.addresses 4 (λ eq. absurd (omega (arith, eq))) ∙ at_2.next) stands4
       (λ pc. ap (λ (n : ℕ). or_bad (λ which. Exits (exit.Fault which)) (fault_of n (data_at t4.registers 1))) has4 ∙ ap (λ (n : ℕ). or_bad (λ which. Exits (exit.Fault which)) (fault_of w n)) one ∙ ap (or_bad (λ which. Exits (exit.Fault which))) found)))))))))) (λ e. tt)))
 
+module _ (a : Assembly) (m : Setting) (s : WordState) (housed : IsHoused m) (place : IsInPlace m s) where
+  does_quick : (t : State) (k at pc : ℕ) → executed t.storage at (with_pc t.registers pc) (Moveq (pos k) 2) ≡ next (with_flags (with_data (with_pc t.registers pc) 2 (unsigned (pos k))) (flags_of_result t.registers.flags (unsigned (pos k)))) Nothing
+  unfolding executed move_quick
+  does_quick t k at pc = refl
+
+  -- what was asked for in D0, what is left in D1, and which it is in D2
+  report : (t : State) (x : Operand) (w high low top bottom k : ℕ) (how : Exit) (items : List Item) → Represents m a.labels s t → IsUsable m x → word_of m s x ≡ Some (Number w) → address_at t.registers high ≡ top → address_at t.registers low ≡ bottom
+      → high ≢ 3 → low ≢ 3 → bottom ≤ top → top < 2 ^ 32 → ((u : State) → data_at u.registers 0 ≡ w → data_at u.registers 1 ≡ top - bottom → data_at u.registers 2 ≡ k → serve a.names u 4 ≡ Exits how)
+      → Stands a t (load_items m.homes x 0 ++ (Plain (MoveL (A high) (D 1)) ∷ Plain (SubL (A low) 1) ∷ Plain (Moveq (pos k) 2) ∷ Plain (Trap 4) ∷ items)) → Tells a 7 t [] (Some how) (λ u. next_of u ≡ s.next)
+  report t x w high low top bottom k how items is usable word up down ok_high ok_low le small served stands =
+      let R : State → Type 0 = λ z. next_of z ≡ s.next in
+      let P : State → Type 0 = λ u. Tells a 1 u [] (Some how) R in
+      before a 6 1 t [] (Some how) R
+      (load_goes a m housed 3 s t x 0 (Number w) (Plain (MoveL (A high) (D 1)) ∷ Plain (SubL (A low) 1) ∷ Plain (Moveq (pos k) 2) ∷ Plain (Trap 4) ∷ items) P (omega arith) place is usable word stands
+      (λ t1 first has0 stands1.
+      move_goes a m housed 2 t1 (A high) 1 top (Plain (SubL (A low) 1) ∷ Plain (Moveq (pos k) 2) ∷ Plain (Trap 4) ∷ items) P (omega arith) stands1 (reads_address t1 high top (first.addresses high ok_high ∙ up))
+      (λ t2 second has1 stands2.
+      let bottom_there : address_at t2.registers low ≡ bottom = second.addresses low ok_low ∙ first.addresses low ok_low ∙ down in
+      gives a 1 t2 (SubL (A low) 1) 1 (difference_of (data_at t2.registers 1) bottom) (flags_of_difference (data_at t2.registers 1) bottom) (Plain (Moveq (pos k) 2) ∷ Plain (Trap 4) ∷ items) P (omega arith) stands2
+      (λ at pc. does_subtract t2 (A low) 1 bottom at pc (reads_address t2 low bottom bottom_there))
+      (λ t3 third has2 flags stands3.
+      gives a 0 t3 (Moveq (pos k) 2) 2 (unsigned (pos k)) (flags_of_result t3.registers.flags (unsigned (pos k))) (Plain (Trap 4) ∷ items) P (omega arith) stands3 (λ at pc. does_quick t3 k at pc)
+      (λ t4 fourth has3 flags2 stands4.
+      let zero_there : data_at t4.registers 0 ≡ w = fourth.numbers 0 (omega arith) (λ e. absurd (omega (arith, e))) ∙ third.numbers 0 (omega arith) (λ e. absurd (omega (arith, e))) ∙ second.numbers 0 (omega arith) (λ e. absurd (omega (arith, e))) ∙ has0 in
+      let one_there : data_at t4.registers 1 ≡ top - bottom = fourth.numbers 1 (omega arith) (λ e. absurd (omega (arith, e))) ∙ omega (arith, has2, has1, le, small) in
+      let next_there : next_of t4 ≡ s.next =
+      fourth.addresses 4 (λ e. absurd (omega (arith, e))) ∙ third.addresses 4 (λ e. absurd (omega (arith, e))) ∙ second.addresses 4 (λ e. absurd (omega (arith, e))) ∙ first.addresses 4 (λ e. absurd (omega (arith, e))) ∙ is.next in
+      arrived a t4 P (ended a m s housed place t4 4 items how next_there stands4 (λ pc. served (at_pc t4 pc) zero_there one_there has3)))))))
+
+  heap_line : (t : State) (x : Operand) (items : List Item) → Represents m a.labels s t → IsUsable m x → Stands a t (op_items m.homes (op.Service 4 (x ∷ operand.Word 0 ∷ [])) ++ items) → Serves a m s t items 7 (op_effect m s (op.Service 4 (x ∷ operand.Word 0 ∷ [])))
+  unfolding op_items service_items full_items
+  heap_line t x items is usable stands =
+      number_serves a m s t items 7 x (λ w. Ends (Full false w (heap_room m s))) (λ w word.
+      (exit.Full false w (heap_room m s), refl,
+      report t x w 6 4 (heap_end m) s.next 0 (exit.Full false w (heap_room m s)) items is usable word is.end is.next (λ e. absurd (omega (arith, e))) (λ e. absurd (omega (arith, e))) place.next_to (omega (arith, housed.heap))
+      (λ u zero_there one_there two_there. rw (zero_there, one_there, two_there) refl)
+      (subst (Stands a t) (append_assoc (load_items m.homes x 0 ++ left_items false) (Plain (Trap 4) ∷ []) items ∙ append_assoc (load_items m.homes x 0) (left_items false) (Plain (Trap 4) ∷ items)) stands)))
+
+  stack_line : (t : State) (x : Operand) (items : List Item) → Represents m a.labels s t → IsUsable m x → Stands a t (op_items m.homes (op.Service 4 (x ∷ operand.Word 1 ∷ [])) ++ items) → Serves a m s t items 7 (op_effect m s (op.Service 4 (x ∷ operand.Word 1 ∷ [])))
+  unfolding op_items service_items full_items
+  stack_line t x items is usable stands =
+      number_serves a m s t items 7 x (λ w. Ends (Full true w (stack_room s))) (λ w word.
+      (exit.Full true w (stack_room s), refl,
+      report t x w 7 5 s.top STACK_START 1 (exit.Full true w (stack_room s)) items is usable word is.top is.limit (λ e. absurd (omega (arith, e))) (λ e. absurd (omega (arith, e))) place.top_from (omega (arith, place.top_to, housed.stack))
+      (λ u zero_there one_there two_there. rw (zero_there, one_there, two_there) refl)
+      (subst (Stands a t) (append_assoc (load_items m.homes x 0 ++ left_items true) (Plain (Trap 4) ∷ []) items ∙ append_assoc (load_items m.homes x 0) (left_items true) (Plain (Trap 4) ∷ items)) stands)))
+
 pub characters_arrive : CharactersArrive
 unfolding op_items service_items
 characters_arrive x a m s t items housed place is usable stands =
@@ -170,4 +217,10 @@ pub faults_arrive : FaultsArrive
 faults_arrive = record {
   plain = λ x a m s t items housed place is usable stands. plain_fault a m s housed place t x items is usable.0 stands;
   with_fixnum = λ x y a m s t items housed place is usable stands. own_fault a m s housed place t x y items is usable.0 usable.1.0 stands;
+}
+
+pub room_reported : RoomReported
+room_reported = record {
+  heap = λ x a m s t items housed place is usable stands. heap_line a m s housed place t x items is usable.0 stands;
+  stack = λ x a m s t items housed place is usable stands. stack_line a m s housed place t x items is usable.0 stands;
 }
