@@ -1,16 +1,15 @@
 -- A test goes on in one of two blocks.
-use Rattle.std.proofs.Common.{◌≡◌, ◌≢◌, ℕ, suc, ◌+◌, ◌%◌, ◌^◌, ◌<◌, ◌≤◌, ◌==◌, nat_lt, Bool, true, false, not, List, [], ◌∷◌, ◌++◌, Option, Some, None, inl, inr, refl, ap, sym, subst, ◌∙◌, arith, append_assoc}
+use Rattle.std.proofs.Common.{◌≡◌, ℕ, suc, ◌%◌, ◌^◌, ◌<◌, ◌==◌, nat_lt, Bool, true, false, List, [], ◌∷◌, ◌++◌, Some, None, inl, inr, refl, ap, sym, subst, ◌∙◌, arith, append_assoc}
 use Rattle.std.specs.Prelude.{if◌then◌else◌, bit_and, slice_index}
 use Rattle.std.proofs.lemmas.Bool.{ltb-true, eqb-true}
 use Rattle.std.proofs.lemmas.Bool.Decides.{eqb_tells}
 use Rattle.word_ir.specs.declared.operands.Operand.{Operand}
 use Rattle.word_ir.specs.declared.words.Test.{Test}
 use Rattle.word_ir.specs.declared.words.Test.TheVariants as test
-use Rattle.word_ir.specs.declared.words.WordEnd.TheVariants as last
-use Rattle.word_ir.specs.Word.{Word, Number, Code, number_of}
+use Rattle.word_ir.specs.Word.{Word, Number, Code}
 use Rattle.word_ir.specs.Computing.{compared, is_of_tag}
 use Rattle.word_ir.specs.State.{Setting, State as WordState}
-use Rattle.word_ir.specs.Effects.{Effect, Turns, word_of, or_broken, turned, end_effect, test_effect}
+use Rattle.word_ir.specs.Effects.{Effect, word_of, or_broken, turned, test_effect}
 use Rattle.word_ir.specs.Ranges.{IsInPlace}
 use Rattle.m68020_code.specs.declared.instr.Cond.{Cond}
 use Rattle.m68020_code.specs.declared.instr.Cond.TheVariants.{Bra}
@@ -27,7 +26,7 @@ use Rattle.m68020_asm.specs.declared.item.Item.TheVariants.{Plain, Branch}
 use Rattle.lap_items.specs.Operands.{source_items, source_of, load_items}
 use Rattle.lap_items.specs.Ends.{condition_of, comparing_items, test_items}
 use Rattle.lap_runs.specs.Represents.{real, IsKnown, Represents}
-use Rattle.lap_paths.specs.Paths.{Assembly, Stands, Path, Reads, Beside, at_pc}
+use Rattle.lap_paths.specs.Paths.{Assembly, Stands, Reads, at_pc}
 use Rattle.lap_paths.specs.Housed.{IsHoused, IsUsable}
 use Rattle.lap_paths.proofs.Steps.{branch, widen}
 use Rattle.lap_paths.proofs.Besides.{beside_represents, beside_pc}

@@ -1,7 +1,6 @@
 -- Words of storage as operands.
-use Rattle.std.proofs.Common.{◌≡◌, ◌≢◌, ℕ, suc, ◌+◌, ◌*◌, ◌%◌, ◌^◌, ◌<◌, ◌≤◌, Bool, true, false, List, [], ◌∷◌, ◌++◌, length, Option, Some, None, slice_get, refl, ap, sym, subst, ◌∙◌, arith, append_assoc}
-use Rattle.std.specs.Prelude.{if◌then◌else◌, ℤ, pos, negsuc, ◌+ℤ◌, Ok, slice_index}
-use Rattle.std.specs.Option.{option_map_or}
+use Rattle.std.proofs.Common.{◌≡◌, ℕ, suc, ◌+◌, ◌*◌, ◌^◌, ◌<◌, Bool, true, false, List, [], ◌∷◌, ◌++◌, Some, slice_get, refl, ap, sym, subst, ◌∙◌, arith, append_assoc}
+use Rattle.std.specs.Prelude.{if◌then◌else◌, ℤ, pos, ◌+ℤ◌}
 use Rattle.std.proofs.lemmas.List.{get_or-set_same}
 use Rattle.std.proofs.lemmas.Option.{get_or_from_slice_get, slice_get_within}
 use Rattle.word_ir.specs.declared.operands.Operand.{Operand}
@@ -11,27 +10,24 @@ use Rattle.word_ir.specs.declared.placed.Home.TheVariants as home
 use Rattle.word_ir.specs.Word.{Word, Number, moved, wrap, unsigned}
 use Rattle.word_ir.specs.Whole.{is_signed}
 use Rattle.word_ir.specs.Storage.{static_at, STACK_START, place_from}
-use Rattle.word_ir.specs.State.{Setting, State as WordState, Own, At, held, word_at}
+use Rattle.word_ir.specs.State.{Setting, State as WordState, word_at}
 use Rattle.word_ir.specs.Effects.{word_of}
 use Rattle.word_ir.specs.Ranges.{IsInPlace}
 use Rattle.m68020_code.specs.declared.instr.Ea.{Ea}
-use Rattle.m68020_code.specs.declared.instr.Ea.TheVariants.{D, Disp, Abs, Imm}
-use Rattle.m68020_code.specs.declared.instr.Ea.TheVariants as ea
-use Rattle.m68020_code.specs.declared.instr.Instr.TheVariants.{MoveL, MoveaL}
+use Rattle.m68020_code.specs.declared.instr.Ea.TheVariants.{D, Abs, Imm}
+use Rattle.m68020_code.specs.declared.instr.Instr.TheVariants.{MoveL}
 use Rattle.m68020_step.specs.declared.registers.Effect.TheVariants.{Nothing}
 use Rattle.m68020_step.specs.ConditionCodes.{flags_of_result}
-use Rattle.m68020_step.specs.declared.operand.OperandSize.TheVariants.{Long}
 use Rattle.m68020_step.specs.declared.operand.Place.TheVariants.{Memory}
-use Rattle.m68020_step.specs.Operand.{Fetched, with_pc, with_data, with_flags, data_at, address_at, located, at_rest, address_of, index_of, read_long, long_operand, or_bad_address}
+use Rattle.m68020_step.specs.Operand.{with_pc, with_data, with_flags, data_at, address_at, located, at_rest, address_of, index_of, read_long, long_operand}
 use Rattle.m68020_step.specs.Step.{State}
 use Rattle.m68020_step.specs.Storage.{long_at}
 use Rattle.m68020_step.specs.Word.{sum_of}
 use Rattle.m68020_asm.specs.declared.item.Item.{Item}
 use Rattle.m68020_asm.specs.declared.item.Item.TheVariants.{Plain}
 use Rattle.lap_items.specs.Homes.{home_of, at_home}
-use Rattle.lap_items.specs.Operands.{index_d}
 use Rattle.lap_items.specs.Storage.{is_near, far_items, from_register, base_items, base_of, access_items, access_of}
-use Rattle.lap_runs.specs.Represents.{real, IsKnown, HomeHas, Represents}
+use Rattle.lap_runs.specs.Represents.{HomeHas, Represents}
 use Rattle.lap_paths.specs.Paths.{Assembly, Stands, Path, Reads, Beside}
 use Rattle.lap_paths.specs.Housed.{IsHoused, IsUsable}
 use Rattle.lap_paths.proofs.Steps.{act, widen}

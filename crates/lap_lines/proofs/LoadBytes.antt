@@ -1,6 +1,6 @@
 -- A byte of storage goes into a home.
-use Rattle.std.proofs.Common.{◌≡◌, ◌≢◌, ℕ, zero, suc, ◌+◌, ◌*◌, ◌/◌, ◌%◌, ◌^◌, ◌<◌, ◌≤◌, Bool, true, false, List, [], ◌∷◌, ◌++◌, Option, Some, None, inl, inr, refl, ap, sym, subst, ◌∙◌, arith, append_assoc}
-use Rattle.std.specs.Prelude.{if◌then◌else◌, option_map, ℤ, pos, negsuc, ◌+ℤ◌, Ok}
+use Rattle.std.proofs.Common.{◌≡◌, ℕ, suc, ◌+◌, ◌*◌, ◌/◌, ◌%◌, ◌^◌, ◌<◌, Bool, true, false, List, [], ◌∷◌, ◌++◌, Option, Some, None, refl, ap, sym, subst, ◌∙◌, arith, append_assoc}
+use Rattle.std.specs.Prelude.{if◌then◌else◌, option_map, ℤ, pos, ◌+ℤ◌}
 use Rattle.std.specs.Option.{option_and_then}
 use Rattle.std.proofs.lemmas.List.{get_or-set_same, get_or-set_other}
 use Rattle.t_base.specs.declared.basics.Var.{Var}
@@ -11,7 +11,7 @@ use Rattle.word_ir.specs.Word.{Word, Number, Code, number_of, byte_of, moved, wr
 use Rattle.word_ir.specs.Whole.{is_signed}
 use Rattle.word_ir.specs.Storage.{byte_at as word_byte}
 use Rattle.word_ir.specs.State.{Setting, State as WordState, keeper_of, has_room, word_at}
-use Rattle.word_ir.specs.Effects.{Effect, Binds, word_of, with_number, with_byte_at, binds, op_effect}
+use Rattle.word_ir.specs.Effects.{Binds, word_of, with_number, with_byte_at, binds, op_effect}
 use Rattle.word_ir.specs.Step.{changed}
 use Rattle.word_ir.specs.Ranges.{IsInPlace}
 use Rattle.m68020_code.specs.declared.instr.Ea.{Ea}
@@ -21,15 +21,13 @@ use Rattle.m68020_code.specs.declared.instr.Instr.TheVariants.{MoveaL, MoveB, Mo
 use Rattle.m68020_code.specs.Table.{fits}
 use Rattle.m68020_step.specs.declared.registers.Effect.TheVariants.{Nothing}
 use Rattle.m68020_step.specs.declared.registers.Flags.{Flags}
-use Rattle.m68020_step.specs.declared.operand.OperandSize.TheVariants.{Byte}
-use Rattle.m68020_step.specs.declared.operand.Place.TheVariants.{Memory}
 use Rattle.m68020_step.specs.Arithmetic.{add_immediate}
 use Rattle.m68020_step.specs.ConditionCodes.{flags_of_result, flags_of_sum, flags_of_byte}
 use Rattle.m68020_step.specs.Moves.{move_quick, move_byte}
-use Rattle.m68020_step.specs.Operand.{◌>>=◌, next, with_pc, with_data, with_flags, data_at, address_at, located, at_rest, address_of, index_of, read_long, store_long, change_long, read_byte, byte_operand, store_byte, or_bad_address}
+use Rattle.m68020_step.specs.Operand.{next, with_pc, with_data, with_flags, data_at, address_at, located, address_of, index_of, read_long, store_long, change_long, read_byte, byte_operand, store_byte}
 use Rattle.m68020_step.specs.Step.{State, executed}
 use Rattle.m68020_step.specs.Ranges.{HasBytes}
-use Rattle.m68020_step.specs.Storage.{Regions, long_at, byte_at}
+use Rattle.m68020_step.specs.Storage.{Regions, byte_at}
 use Rattle.m68020_step.specs.Word.{sum_of, with_low_byte}
 use Rattle.m68020_asm.specs.declared.item.Item.{Item}
 use Rattle.m68020_asm.specs.declared.item.Item.TheVariants.{Plain}
@@ -37,13 +35,12 @@ use Rattle.lap_items.specs.Homes.{home_of, put_into}
 use Rattle.lap_items.specs.Operands.{index_d, source_items, source_of, load_items}
 use Rattle.lap_items.specs.Storage.{index_items, short_of, byte_base_items, byte_of as byte_operand_of, read_byte_items}
 use Rattle.lap_items.specs.Operations.{op_items}
-use Rattle.lap_runs.specs.Represents.{real, Represents}
-use Rattle.lap_paths.specs.Paths.{Assembly, Stands, Path, Reads, Beside}
+use Rattle.lap_runs.specs.Represents.{Represents}
+use Rattle.lap_paths.specs.Paths.{Assembly, Stands, Path, Beside}
 use Rattle.lap_paths.specs.Housed.{IsHoused, HasHome, IsUsable}
 use Rattle.lap_paths.proofs.Steps.{act, widen}
 use Rattle.lap_paths.proofs.Besides.{beside_represents, beside_data}
 use Rattle.lap_paths.proofs.Loads.{move_base_goes, source_goes}
-use Rattle.lap_paths.proofs.WordStorage.{is_whole, visible}
 use Rattle.lap_lines.specs.Arrives.{Behind, Arrives}
 use Rattle.lap_lines.proofs.Numbers.{address_moved, slot_moved}
 use Rattle.lap_lines.proofs.Arriving.{or_arrives, number_arrives, kept_arrives}
@@ -183,6 +180,7 @@ module _ (a : Assembly) (m : Setting) (s : WordState) (housed : IsHoused m) (pla
     where
       turned : (x y : ℕ) → sum_of x y ≡ sum_of y x
       turned x y = omega arith
+
       added : (top b i o : ℕ) → sum_of top (sum_of i (sum_of b o)) ≡ sum_of (wrap (top + b) + i) o
       added top b i o = omega arith
 

@@ -1,6 +1,6 @@
 -- Shifts by parts.
-use Rattle.std.proofs.Common.{◌≡◌, ◌≢◌, ℕ, zero, suc, ◌+◌, ◌-◌, ◌*◌, ◌/◌, ◌%◌, ◌^◌, ◌<◌, ◌≤◌, ◌==◌, nat_lt, nat_le, Bool, true, false, not, ◌||◌, ◌⊎◌, inl, inr, refl, ap, sym, subst, ◌∙◌, arith}
-use Rattle.std.specs.Prelude.{ℤ, pos, negsuc, ◌*ℤ◌, neg_ℤ, if◌then◌else◌, min}
+use Rattle.std.proofs.Common.{◌≡◌, ℕ, zero, suc, ◌+◌, ◌-◌, ◌*◌, ◌/◌, ◌^◌, ◌<◌, ◌≤◌, nat_lt, nat_le, Bool, true, false, not, ◌||◌, ◌⊎◌, inl, inr, refl, ap, sym, ◌∙◌, arith}
+use Rattle.std.specs.Prelude.{ℤ, pos, negsuc, ◌*ℤ◌, neg_ℤ, if◌then◌else◌}
 use Rattle.std.specs.Int.{w32, int_shr}
 use Rattle.std.specs.Int.Signed.{shr_z}
 use Rattle.std.proofs.Math.Nat.{pow-succ', mul_assoc, div-div-eq-div-mul, zero-div, div-le_self, pow-le-pow_right}
@@ -9,7 +9,7 @@ use Rattle.std.proofs.lemmas.Nat.{pow_pos, pow-add, mul-mod_first}
 use Rattle.std.proofs.lemmas.Bool.{lt-ltb, le-ltb, le-leb, ltb-true, leb-true}
 use Rattle.std.proofs.lemmas.Bool.Decides.{leb_tells}
 use Rattle.word_ir.specs.Word.{signed, unsigned, fits}
-use Rattle.m68020_step.specs.Word.{wrap, is_negative, same}
+use Rattle.m68020_step.specs.Word.{wrap}
 use Rattle.m68020_step.specs.ConditionCodes.{turns, sign_changes}
 use Rattle.lap_lines.proofs.Numbers.{fits_signed}
 
@@ -49,19 +49,25 @@ one_step a lt = elim (leb_tells (suc a) (2 ^ 31)) [
         inl (rw (double, low a p.1, low (a * 2) q.1) refl, λ c. rw (double, p.0, q.0, doubled a c) refl)
     | inr q ↦
         let double : wrap (a * 2) ≡ a * 2 = omega (arith, p.1) in
-        inr (rw (double, low a p.1, le-leb (2 ^ 31) (a * 2) (omega (arith, q.1))) refl,
-        λ c. rw p.0 (le-ltb (a * 2 ^ suc c) (2 ^ 31) (at_least a c (2 ^ 31) (omega (arith, q.1)))))
+        inr (
+          rw (double, low a p.1, le-leb (2 ^ 31) (a * 2) (omega (arith, q.1))) refl,
+          λ c. rw p.0 (le-ltb (a * 2 ^ suc c) (2 ^ 31) (at_least a c (2 ^ 31) (omega (arith, q.1)))),
+        )
   ]
   | inr p ↦ elim (leb_tells ((2 ^ 32 - a) * 2) (2 ^ 31)) [
     | inl q ↦
         let double : wrap (a * 2) ≡ a * 2 - 2 ^ 32 = omega (arith, p.1, lt) in
         let rest : 2 ^ 32 - (a * 2 - 2 ^ 32) ≡ (2 ^ 32 - a) * 2 = omega (arith, p.1, lt) in
-        inl (rw (double, le-leb (2 ^ 31) a (omega (arith, p.1)), le-leb (2 ^ 31) (a * 2 - 2 ^ 32) (omega (arith, q.1, lt))) refl,
-        λ c. rw (double, p.0, le-ltb (a * 2 - 2 ^ 32) (2 ^ 31) (omega (arith, q.1, lt)), rest, doubled (2 ^ 32 - a) c) refl)
+        inl (
+          rw (double, le-leb (2 ^ 31) a (omega (arith, p.1)), le-leb (2 ^ 31) (a * 2 - 2 ^ 32) (omega (arith, q.1, lt))) refl,
+          λ c. rw (double, p.0, le-ltb (a * 2 - 2 ^ 32) (2 ^ 31) (omega (arith, q.1, lt)), rest, doubled (2 ^ 32 - a) c) refl,
+        )
     | inr q ↦
         let double : wrap (a * 2) ≡ a * 2 - 2 ^ 32 = omega (arith, p.1, lt) in
-        inr (rw (double, le-leb (2 ^ 31) a (omega (arith, p.1)), low (a * 2 - 2 ^ 32) (omega (arith, q.1, lt))) refl,
-        λ c. rw p.0 (above ((2 ^ 32 - a) * 2 ^ suc c) (at_least (2 ^ 32 - a) c (2 ^ 31 + 1) (omega (arith, q.1)))))
+        inr (
+          rw (double, le-leb (2 ^ 31) a (omega (arith, p.1)), low (a * 2 - 2 ^ 32) (omega (arith, q.1, lt))) refl,
+          λ c. rw p.0 (above ((2 ^ 32 - a) * 2 ^ suc c) (at_least (2 ^ 32 - a) c (2 ^ 31 + 1) (omega (arith, q.1)))),
+        )
   ]
 ]
   where
@@ -70,14 +76,17 @@ one_step a lt = elim (leb_tells (suc a) (2 ^ 31)) [
       | inl p ↦ absurd (omega (arith, p.1, lt))
       | inr p ↦ p.0
     ]
+
     above : (n : ℕ) → 2 ^ 31 + 1 ≤ n → nat_le n (2 ^ 31) ≡ false
     above n le = elim (leb_tells n (2 ^ 31)) [
       | inl p ↦ absurd (omega (arith, p.1, le))
       | inr p ↦ p.0
     ]
+
     more : (x y : ℕ) → 0 < y → x ≤ x * y
     more x zero lt = absurd (omega (arith, lt))
     more x (suc y) lt = omega arith
+
     at_least : (x c bound : ℕ) → bound ≤ x * 2 → bound ≤ x * 2 ^ suc c
     at_least x c bound le = omega (arith, le, doubled x c, more (x * 2) (2 ^ c) (pow_pos c))
 
@@ -119,19 +128,25 @@ value_left a c lt h = elim (leb_tells (suc a) (2 ^ 31)) [
   where
     kept : (n : ℕ) → n < 2 ^ 31 → wrap n ≡ unsigned (pos n)
     kept n lt = omega (arith, lt)
+
     positive : (y m : ℕ) → 0 < y → 0 < m → 0 < y * m
     positive zero m p q = absurd (omega (arith, p))
     positive (suc y) zero p q = absurd (omega (arith, q))
     positive (suc y) (suc m) p q = omega arith
+
     away : (p : ℕ) → 0 < p → p ≤ 2 ^ 31 → unsigned (neg_ℤ (pos p)) ≡ 2 ^ 32 - p
     away zero some le = absurd (omega (arith, some))
     away (suc p) some le = refl
+
     mul_add_right : (a y m : ℕ) → (a + y) * m ≡ a * m + y * m
     mul_add_right a y m = omega arith
+
     split : (a y m : ℕ) → a + y ≡ 2 ^ 32 → a * m + y * m ≡ 2 ^ 32 * m
     split a y m sum = sym (mul_add_right a y m) ∙ ap (λ (n : ℕ). n * m) sum
+
     wraps : (x y m : ℕ) → x + y ≡ 2 ^ 32 * m → 0 < y → y ≤ 2 ^ 31 → wrap x ≡ 2 ^ 32 - y
     wraps x y m sum some le = omega (arith, sum, some, le)
+
     negated : (a y m : ℕ) → a + y ≡ 2 ^ 32 → 0 < m → y * m ≤ 2 ^ 31 → 0 < y → wrap (a * m) ≡ unsigned (neg_ℤ (pos (y * m)))
     negated a y m sum some le more = wraps (a * m) (y * m) m (split a y m sum) (positive y m more some) le ∙ sym (away (y * m) (positive y m more some) le)
 
@@ -144,17 +159,21 @@ left_most a n lt le = elim (leb_tells (suc a) (2 ^ 31)) [
   where
     big : 2 ^ 32 ≤ 2 ^ n
     big = pow-le-pow_right (omega arith) le
+
     grown : (x : ℕ) → 0 < x → 2 ^ 32 ≤ x * 2 ^ n
     grown zero some = absurd (omega (arith, some))
     grown (suc x) some = omega (arith, big)
+
     by_zero : (a : ℕ) → nat_lt (a * 2 ^ n) (2 ^ 31) ≡ nat_lt (a * 2 ^ 32) (2 ^ 31)
     by_zero zero = let none : 0 * 2 ^ n ≡ 0 * 2 ^ 32 = omega arith in ap (λ (x : ℕ). nat_lt x (2 ^ 31)) none
     by_zero (suc a) = le-ltb (suc a * 2 ^ n) (2 ^ 31) (omega (arith, grown (suc a) (omega arith))) ∙ sym (le-ltb (suc a * 2 ^ 32) (2 ^ 31) (omega arith))
+
     above : (n : ℕ) → 2 ^ 31 + 1 ≤ n → nat_le n (2 ^ 31) ≡ false
     above n le = elim (leb_tells n (2 ^ 31)) [
       | inl p ↦ absurd (omega (arith, p.1, le))
       | inr p ↦ p.0
     ]
+
     over : (y : ℕ) → 0 < y → nat_le (y * 2 ^ n) (2 ^ 31) ≡ nat_le (y * 2 ^ 32) (2 ^ 31)
     over y some = above (y * 2 ^ n) (omega (arith, grown y some)) ∙ sym (above (y * 2 ^ 32) (omega (arith, some)))
 

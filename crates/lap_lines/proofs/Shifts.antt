@@ -1,5 +1,5 @@
 -- Shifts: by 8 bits at most at a time.
-use Rattle.std.proofs.Common.{◌≡◌, ℕ, zero, suc, ◌+◌, ◌-◌, ◌*◌, ◌/◌, ◌%◌, ◌^◌, ◌<◌, ◌≤◌, ◌==◌, ◌||◌, Bool, true, false, not, List, [], ◌∷◌, ◌++◌, Some, inl, inr, refl, ap, sym, subst, ◌∙◌, arith, append_assoc}
+use Rattle.std.proofs.Common.{◌≡◌, ℕ, zero, suc, ◌+◌, ◌-◌, ◌*◌, ◌/◌, ◌%◌, ◌^◌, ◌<◌, ◌≤◌, ◌==◌, ◌||◌, Bool, true, false, not, List, [], ◌∷◌, ◌++◌, inl, inr, refl, ap, sym, subst, ◌∙◌, arith, append_assoc}
 use Rattle.std.specs.Prelude.{if◌then◌else◌, ℤ, pos, negsuc, ◌*ℤ◌, min}
 use Rattle.std.specs.Int.{w32, int_shr}
 use Rattle.std.proofs.lemmas.Int.{of_z-to_z}
@@ -9,10 +9,10 @@ use Rattle.t_base.specs.declared.basics.Var.{Var}
 use Rattle.word_ir.specs.declared.operands.Operand.{Operand}
 use Rattle.word_ir.specs.declared.words.Arith.TheVariants as kind
 use Rattle.word_ir.specs.declared.words.WordOp.TheVariants as op
-use Rattle.word_ir.specs.Word.{Word, Number, signed, unsigned, fits}
-use Rattle.word_ir.specs.Computing.{Result, Gives, Over, fitted, shifted, computed}
-use Rattle.word_ir.specs.State.{Setting, State as WordState, keeper_of, has_room}
-use Rattle.word_ir.specs.Effects.{Effect, Binds, Turns, word_of, binds, bind_result, op_effect}
+use Rattle.word_ir.specs.Word.{Number, signed, unsigned, fits}
+use Rattle.word_ir.specs.Computing.{Gives, Over, fitted}
+use Rattle.word_ir.specs.State.{Setting, State as WordState, keeper_of}
+use Rattle.word_ir.specs.Effects.{Binds, binds, bind_result, op_effect}
 use Rattle.word_ir.specs.Step.{changed}
 use Rattle.word_ir.specs.Ranges.{IsInPlace}
 use Rattle.m68020_code.specs.declared.instr.Cond.TheVariants.{Vs}
@@ -27,11 +27,10 @@ use Rattle.m68020_step.specs.Word.{wrap}
 use Rattle.m68020_asm.specs.declared.item.Item.{Item}
 use Rattle.m68020_asm.specs.declared.item.Item.TheVariants.{Plain, Branch}
 use Rattle.lap_items.specs.Homes.{home_of, put_into}
-use Rattle.lap_items.specs.Operands.{load_items}
-use Rattle.lap_items.specs.Arithmetic.{left_shift, right_shift, repeated, left_items, right_items, shift_items, computing_items}
+use Rattle.lap_items.specs.Arithmetic.{left_shift, right_shift, repeated, left_items, right_items, computing_items}
 use Rattle.lap_items.specs.Operations.{op_items}
 use Rattle.lap_runs.specs.Represents.{Represents}
-use Rattle.lap_paths.specs.Paths.{Assembly, Stands, Path, Beside, IsAt, at_pc}
+use Rattle.lap_paths.specs.Paths.{Assembly, Stands, Path, IsAt, at_pc}
 use Rattle.lap_paths.specs.Housed.{IsHoused, HasHome, IsUsable}
 use Rattle.lap_paths.proofs.Steps.{branch, widen}
 use Rattle.lap_paths.proofs.Besides.{beside_represents, beside_pc}
@@ -40,7 +39,7 @@ use Rattle.lap_lines.proofs.Arriving.{number_arrives, kept_arrives}
 use Rattle.lap_lines.proofs.Alu.{gives}
 use Rattle.lap_lines.proofs.Stack.{opened}
 use Rattle.lap_lines.proofs.Sums.{loaded, number_bound, parted}
-use Rattle.lap_lines.proofs.ShiftNumbers.{wrapped_more, changes_more, left_fits, overflow_is, fits_left, value_left, left_most, right_fits, right_more, right_most}
+use Rattle.lap_lines.proofs.ShiftNumbers.{wrapped_more, changes_more, overflow_is, fits_left, value_left, left_most, right_fits, right_more, right_most}
 
 does_left : (t : State) (e old at pc : ℕ) → data_at t.registers 7 ≡ old → executed t.storage at (with_pc t.registers pc) (AslL e 7) ≡ next (with_flags (with_data (with_pc t.registers pc) 7 (wrap (old * 2 ^ e))) (flags_of_left_shift old e)) Nothing
 unfolding executed shift_left
@@ -133,17 +132,19 @@ module _ (a : Assembly) (m : Setting) (s : WordState) (housed : IsHoused m) (pla
 left_all : (i n : ℕ) → i < 2 ^ 32 → (sign_changes (min n 32) i ≡ not (fits (signed i *ℤ pos (2 ^ n)))) × (fits (signed i *ℤ pos (2 ^ n)) ≡ true → wrap (i * 2 ^ min n 32) ≡ unsigned (signed i *ℤ pos (2 ^ n)))
 left_all i n lt = elim (leb_tells n 32) [
   | inl p ↦
-      let all : min n 32 ≡ n = omega (arith, p.1) in
-      (ap (λ (k : ℕ). sign_changes k i) all ∙ overflow_is n i lt ∙ ap not (sym (fits_left i n lt)),
-      λ h. ap (λ (k : ℕ). wrap (i * 2 ^ k)) all ∙ value_left i n lt (sym (fits_left i n lt) ∙ h))
+      let all : min n 32 ≡ n = omega (arith, p.1) in (
+        ap (λ (k : ℕ). sign_changes k i) all ∙ overflow_is n i lt ∙ ap not (sym (fits_left i n lt)),
+        λ h. ap (λ (k : ℕ). wrap (i * 2 ^ k)) all ∙ value_left i n lt (sym (fits_left i n lt) ∙ h),
+      )
   | inr p ↦
       let most : min n 32 ≡ 32 = omega (arith, p.1) in
       let behind : 32 + (n - 32) ≡ n = omega (arith, p.1) in
       let none : wrap (i * 2 ^ 32) ≡ 0 = omega arith in
-      let zeros : wrap (0 * 2 ^ (n - 32)) ≡ 0 = omega arith in
-      (ap (λ (k : ℕ). sign_changes k i) most ∙ overflow_is 32 i lt ∙ ap not (sym (left_most i n lt (omega (arith, p.1))) ∙ sym (fits_left i n lt)),
-      λ h. ap (λ (k : ℕ). wrap (i * 2 ^ k)) most ∙ none ∙ sym zeros ∙ ap (λ (x : ℕ). wrap (x * 2 ^ (n - 32))) (sym none) ∙ wrapped_more i 32 (n - 32) ∙ ap (λ (k : ℕ). wrap (i * 2 ^ k)) behind
-      ∙ value_left i n lt (sym (fits_left i n lt) ∙ h))
+      let zeros : wrap (0 * 2 ^ (n - 32)) ≡ 0 = omega arith in (
+        ap (λ (k : ℕ). sign_changes k i) most ∙ overflow_is 32 i lt ∙ ap not (sym (left_most i n lt (omega (arith, p.1))) ∙ sym (fits_left i n lt)),
+        λ h. ap (λ (k : ℕ). wrap (i * 2 ^ k)) most ∙ none ∙ sym zeros ∙ ap (λ (x : ℕ). wrap (x * 2 ^ (n - 32))) (sym none) ∙ wrapped_more i 32 (n - 32) ∙ ap (λ (k : ℕ). wrap (i * 2 ^ k)) behind
+            ∙ value_left i n lt (sym (fits_left i n lt) ∙ h),
+      )
 ]
 
 unshifted : (z : ℤ) → int_shr z 0 ≡ z

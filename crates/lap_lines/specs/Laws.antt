@@ -1,5 +1,5 @@
 -- Laws of operations and their items.
-use Rattle.std.specs.Prelude.{◌≡◌, ℕ, ◌+◌, true, List, ◌++◌, ℤ}
+use Rattle.std.specs.Prelude.{◌≡◌, ℕ, true, List, ◌++◌, ℤ}
 use Rattle.std.specs.List.{AllByRecursion}
 use Rattle.t_base.specs.declared.basics.Var.{Var}
 use Rattle.word_ir.specs.declared.operands.Operand.{Operand}

@@ -1,21 +1,19 @@
 -- The services.
-use Rattle.std.proofs.Common.{◌≡◌, ◌≢◌, ℕ, zero, suc, ◌+◌, ◌-◌, ◌^◌, ◌<◌, ◌≤◌, ◌==◌, Bool, true, false, List, [], ◌∷◌, ◌++◌, Option, Some, None, pos, refl, ap, sym, subst, ◌∙◌, arith, append_assoc}
-use Rattle.std.specs.Prelude.{if◌then◌else◌, slice_index}
+use Rattle.std.proofs.Common.{◌≡◌, ◌≢◌, ℕ, zero, suc, ◌+◌, ◌-◌, ◌^◌, ◌<◌, ◌≤◌, ◌==◌, Bool, true, false, List, [], ◌∷◌, ◌++◌, Option, Some, None, pos, refl, ap, subst, ◌∙◌, arith, append_assoc}
+use Rattle.std.specs.Prelude.{if◌then◌else◌}
 use Rattle.std.specs.Fmt.{signed_decimal}
-use Rattle.std.proofs.lemmas.List.{get_or-set_same}
-use Rattle.program_runs.specs.Runs.{End, Value, Faulted, Full, Broken}
+use Rattle.program_runs.specs.Runs.{Faulted, Full}
 use Rattle.word_ir.specs.declared.operands.Operand.{Operand}
 use Rattle.word_ir.specs.declared.operands.Operand.TheVariants as operand
 use Rattle.word_ir.specs.declared.words.WordOp.TheVariants as op
 use Rattle.word_ir.specs.Word.{Word, Number, Code, number_of}
 use Rattle.word_ir.specs.Storage.{STACK_START}
 use Rattle.word_ir.specs.State.{Setting, State as WordState, heap_end}
-use Rattle.word_ir.specs.Effects.{Effect, Puts, Ends, breaks, or_broken, word_of, with_number, with_numbers, raised, op_effect, heap_room, stack_room, service_effect}
+use Rattle.word_ir.specs.Effects.{Effect, Puts, Ends, breaks, or_broken, word_of, with_number, raised, op_effect, heap_room, stack_room}
 use Rattle.word_ir.specs.Step.{changed}
 use Rattle.word_ir.specs.Ranges.{IsInPlace}
 use Rattle.word_faces.specs.Faces.{character_of, fixnum_of}
 use Rattle.word_faces.specs.Operands.{fault_of}
-use Rattle.m68020_code.specs.declared.instr.Ea.{Ea}
 use Rattle.m68020_code.specs.declared.instr.Ea.TheVariants.{D, A}
 use Rattle.m68020_code.specs.declared.instr.Instr.TheVariants.{MoveL, Moveq, SubL, Trap}
 use Rattle.m68020_step.specs.declared.registers.Effect.TheVariants.{Nothing}
@@ -28,20 +26,20 @@ use Rattle.m68020_asm.specs.declared.item.Item.{Item}
 use Rattle.m68020_asm.specs.declared.item.Item.TheVariants.{Plain}
 use Rattle.machine_services.specs.declared.exit.Exit.{Exit}
 use Rattle.machine_services.specs.declared.exit.Exit.TheVariants as exit
-use Rattle.machine_services.specs.Services.{Served, Puts as ServedPuts, Exits, or_bad, serve}
+use Rattle.machine_services.specs.Services.{Puts as ServedPuts, Exits, or_bad, serve}
 use Rattle.lap_items.specs.Operands.{source_items, source_of, load_items}
 use Rattle.lap_items.specs.Services.{with_one_items, fault_items, full_items, left_items, service_items}
 use Rattle.lap_items.specs.Operations.{op_items}
-use Rattle.lap_runs.specs.Represents.{real, Represents}
-use Rattle.lap_paths.specs.Paths.{Assembly, Stands, Path, Reads, Beside, at_pc, next_of}
+use Rattle.lap_runs.specs.Represents.{Represents}
+use Rattle.lap_paths.specs.Paths.{Assembly, Stands, Beside, at_pc, next_of}
 use Rattle.lap_paths.specs.Housed.{IsHoused, IsUsable}
-use Rattle.lap_paths.proofs.Steps.{arrived, widen}
-use Rattle.lap_paths.proofs.Besides.{beside_represents, beside_trans, beside_none, beside_pc}
+use Rattle.lap_paths.proofs.Steps.{arrived}
+use Rattle.lap_paths.proofs.Besides.{beside_represents}
 use Rattle.lap_paths.proofs.Loads.{source_goes, load_goes, move_goes, reads_data, reads_address}
 use Rattle.lap_lines.specs.Arrives.{Behind}
 use Rattle.lap_lines.proofs.Arriving.{alike}
 use Rattle.lap_lines.proofs.Alu.{gives, does_subtract}
-use Rattle.lap_services.specs.Tells.{Tells, EndsSo, Serves}
+use Rattle.lap_services.specs.Tells.{Tells, Serves}
 use Rattle.lap_services.specs.Laws.{CharactersArrive, FixnumsArrive, FaultsArrive, RoomReported}
 use Rattle.lap_services.proofs.Telling.{trap_ends, trap_puts, before}
 
@@ -112,13 +110,16 @@ module _ (a : Assembly) (m : Setting) (s : WordState) (housed : IsHoused m) (pla
   plain_fault t x items is usable stands =
       number_serves a m s t items 4 x (λ w. raised (w ∷ [])) (λ w word.
       if_serves a m s t items 4 (w == 15) breaks (or_broken (fault_of w 0) (λ f. Ends (Faulted f))) (λ e. tt) (λ e.
-      or_serves a m s t items 4 (fault_of w 0) (λ f. Ends (Faulted f)) (λ f found.
-      (exit.Fault f, refl, before a 3 1 t [] (Some (exit.Fault f)) (λ u. next_of u ≡ s.next)
-      (load_goes a m housed 0 s t x 0 (Number w) (Plain (Trap 3) ∷ items) (λ u. Tells a 1 u [] (Some (exit.Fault f)) (λ v. next_of v ≡ s.next)) (omega arith) place is usable word
-      (subst (Stands a t) (append_assoc (load_items m.homes x 0) (Plain (Trap 3) ∷ []) items) stands)
-      (λ u beside there stands2. arrived a u (λ v. Tells a 1 v [] (Some (exit.Fault f)) (λ z. next_of z ≡ s.next))
-      (ended u 3 items (exit.Fault f) (beside.addresses 4 (λ eq. absurd (omega (arith, eq))) ∙ is.next) stands2
-      (λ pc. ap (λ (n : ℕ). or_bad (λ which. Exits (exit.Fault which)) (fault_of n (data_at u.registers 1))) there ∙ ap (or_bad (λ which. Exits (exit.Fault which))) (fault_same w (data_at u.registers 1) e ∙ found)))))))))
+      or_serves a m s t items 4 (fault_of w 0) (λ f. Ends (Faulted f)) (λ f found. (
+        exit.Fault f,
+        refl,
+        before a 3 1 t [] (Some (exit.Fault f)) (λ u. next_of u ≡ s.next)
+            (load_goes a m housed 0 s t x 0 (Number w) (Plain (Trap 3) ∷ items) (λ u. Tells a 1 u [] (Some (exit.Fault f)) (λ v. next_of v ≡ s.next)) (omega arith) place is usable word
+            (subst (Stands a t) (append_assoc (load_items m.homes x 0) (Plain (Trap 3) ∷ []) items) stands)
+            (λ u beside there stands2. arrived a u (λ v. Tells a 1 v [] (Some (exit.Fault f)) (λ z. next_of z ≡ s.next))
+            (ended u 3 items (exit.Fault f) (beside.addresses 4 (λ eq. absurd (omega (arith, eq))) ∙ is.next) stands2
+            (λ pc. ap (λ (n : ℕ). or_bad (λ which. Exits (exit.Fault which)) (fault_of n (data_at u.registers 1))) there ∙ ap (or_bad (λ which. Exits (exit.Fault which))) (fault_same w (data_at u.registers 1) e ∙ found))))),
+      ))))
 
   -- one with a fixnum
   own_fault : (t : State) (x y : Operand) (items : List Item) → Represents m a.labels s t → IsUsable m x → IsUsable m y → Stands a t (op_items m.homes (op.Service 3 (x ∷ y ∷ [])) ++ items)
@@ -132,25 +133,28 @@ module _ (a : Assembly) (m : Setting) (s : WordState) (housed : IsHoused m) (pla
       let R : State → Type 0 = λ z. next_of z ≡ s.next in
       let how : Exit = exit.Fault f in
       let P : State → Type 0 = λ u. Tells a 1 u [] (Some how) R in
-      let tail : List Item = Plain (MoveL (D 6) (D 1)) ∷ Plain (MoveL (D 7) (D 0)) ∷ Plain (Trap 3) ∷ [] in
-      (how, refl, before a 8 1 t [] (Some how) R
-      (load_goes a m housed 5 s t y 6 (Number v) (load_items m.homes x 7 ++ (tail ++ items)) P (omega arith) place is usable_y second
-      (subst (Stands a t) (append_assoc (load_items m.homes y 6 ++ load_items m.homes x 7) tail items ∙ append_assoc (load_items m.homes y 6) (load_items m.homes x 7) (tail ++ items)) stands)
-      (λ t1 first has1 stands1.
-      let at_1 = beside_represents m a.labels 6 s t t1 housed (omega arith) is first in
-      load_goes a m housed 2 s t1 x 7 (Number w) (tail ++ items) P (omega arith) place at_1 usable word stands1
-      (λ t2 more has2 stands2.
-      let at_2 = beside_represents m a.labels 7 s t1 t2 housed (omega arith) at_1 more in
-      let six : data_at t2.registers 6 ≡ v = more.numbers 6 (omega arith) (λ eq. absurd (omega (arith, eq))) ∙ has1 in
-      move_goes a m housed 1 t2 (D 6) 1 v (Plain (MoveL (D 7) (D 0)) ∷ Plain (Trap 3) ∷ items) P (omega arith) stands2 (reads_data t2 6 v six)
-      (λ t3 third has3 stands3.
-      let seven : data_at t3.registers 7 ≡ w = third.numbers 7 (omega arith) (λ eq. absurd (omega (arith, eq))) ∙ has2 in
-      move_goes a m housed 0 t3 (D 7) 0 w (Plain (Trap 3) ∷ items) P (omega arith) stands3 (reads_data t3 7 w seven)
-      (λ t4 fourth has4 stands4.
-      let one : data_at t4.registers 1 ≡ v = fourth.numbers 1 (omega arith) (λ eq. absurd (omega (arith, eq))) ∙ has3 in
-      arrived a t4 P (ended t4 3 items how
-      (fourth.addresses 4 (λ eq. absurd (omega (arith, eq))) ∙ third.addresses 4 (λ eq. absurd (omega (arith, eq))) ∙ at_2.next) stands4
-      (λ pc. ap (λ (n : ℕ). or_bad (λ which. Exits (exit.Fault which)) (fault_of n (data_at t4.registers 1))) has4 ∙ ap (λ (n : ℕ). or_bad (λ which. Exits (exit.Fault which)) (fault_of w n)) one ∙ ap (or_bad (λ which. Exits (exit.Fault which))) found)))))))))) (λ e. tt)))
+      let tail : List Item = Plain (MoveL (D 6) (D 1)) ∷ Plain (MoveL (D 7) (D 0)) ∷ Plain (Trap 3) ∷ [] in (
+        how,
+        refl,
+        before a 8 1 t [] (Some how) R
+            (load_goes a m housed 5 s t y 6 (Number v) (load_items m.homes x 7 ++ (tail ++ items)) P (omega arith) place is usable_y second
+            (subst (Stands a t) (append_assoc (load_items m.homes y 6 ++ load_items m.homes x 7) tail items ∙ append_assoc (load_items m.homes y 6) (load_items m.homes x 7) (tail ++ items)) stands)
+            (λ t1 first has1 stands1.
+            let at_1 = beside_represents m a.labels 6 s t t1 housed (omega arith) is first in
+            load_goes a m housed 2 s t1 x 7 (Number w) (tail ++ items) P (omega arith) place at_1 usable word stands1
+            (λ t2 more has2 stands2.
+            let at_2 = beside_represents m a.labels 7 s t1 t2 housed (omega arith) at_1 more in
+            let six : data_at t2.registers 6 ≡ v = more.numbers 6 (omega arith) (λ eq. absurd (omega (arith, eq))) ∙ has1 in
+            move_goes a m housed 1 t2 (D 6) 1 v (Plain (MoveL (D 7) (D 0)) ∷ Plain (Trap 3) ∷ items) P (omega arith) stands2 (reads_data t2 6 v six)
+            (λ t3 third has3 stands3.
+            let seven : data_at t3.registers 7 ≡ w = third.numbers 7 (omega arith) (λ eq. absurd (omega (arith, eq))) ∙ has2 in
+            move_goes a m housed 0 t3 (D 7) 0 w (Plain (Trap 3) ∷ items) P (omega arith) stands3 (reads_data t3 7 w seven)
+            (λ t4 fourth has4 stands4.
+            let one : data_at t4.registers 1 ≡ v = fourth.numbers 1 (omega arith) (λ eq. absurd (omega (arith, eq))) ∙ has3 in
+            arrived a t4 P (ended t4 3 items how
+            (fourth.addresses 4 (λ eq. absurd (omega (arith, eq))) ∙ third.addresses 4 (λ eq. absurd (omega (arith, eq))) ∙ at_2.next) stands4
+            (λ pc. ap (λ (n : ℕ). or_bad (λ which. Exits (exit.Fault which)) (fault_of n (data_at t4.registers 1))) has4 ∙ ap (λ (n : ℕ). or_bad (λ which. Exits (exit.Fault which)) (fault_of w n)) one ∙ ap (or_bad (λ which. Exits (exit.Fault which))) found))))))),
+      ))) (λ e. tt)))
 
 module _ (a : Assembly) (m : Setting) (s : WordState) (housed : IsHoused m) (place : IsInPlace m s) where
   does_quick : (t : State) (k at pc : ℕ) → executed t.storage at (with_pc t.registers pc) (Moveq (pos k) 2) ≡ next (with_flags (with_data (with_pc t.registers pc) 2 (unsigned (pos k))) (flags_of_result t.registers.flags (unsigned (pos k)))) Nothing
@@ -184,20 +188,24 @@ module _ (a : Assembly) (m : Setting) (s : WordState) (housed : IsHoused m) (pla
   heap_line : (t : State) (x : Operand) (items : List Item) → Represents m a.labels s t → IsUsable m x → Stands a t (op_items m.homes (op.Service 4 (x ∷ operand.Word 0 ∷ [])) ++ items) → Serves a m s t items 7 (op_effect m s (op.Service 4 (x ∷ operand.Word 0 ∷ [])))
   unfolding op_items service_items full_items
   heap_line t x items is usable stands =
-      number_serves a m s t items 7 x (λ w. Ends (Full false w (heap_room m s))) (λ w word.
-      (exit.Full false w (heap_room m s), refl,
-      report t x w 6 4 (heap_end m) s.next 0 (exit.Full false w (heap_room m s)) items is usable word is.end is.next (λ e. absurd (omega (arith, e))) (λ e. absurd (omega (arith, e))) place.next_to (omega (arith, housed.heap))
-      (λ u zero_there one_there two_there. rw (zero_there, one_there, two_there) refl)
-      (subst (Stands a t) (append_assoc (load_items m.homes x 0 ++ left_items false) (Plain (Trap 4) ∷ []) items ∙ append_assoc (load_items m.homes x 0) (left_items false) (Plain (Trap 4) ∷ items)) stands)))
+      number_serves a m s t items 7 x (λ w. Ends (Full false w (heap_room m s))) (λ w word. (
+        exit.Full false w (heap_room m s),
+        refl,
+        report t x w 6 4 (heap_end m) s.next 0 (exit.Full false w (heap_room m s)) items is usable word is.end is.next (λ e. absurd (omega (arith, e))) (λ e. absurd (omega (arith, e))) place.next_to (omega (arith, housed.heap))
+            (λ u zero_there one_there two_there. rw (zero_there, one_there, two_there) refl)
+            (subst (Stands a t) (append_assoc (load_items m.homes x 0 ++ left_items false) (Plain (Trap 4) ∷ []) items ∙ append_assoc (load_items m.homes x 0) (left_items false) (Plain (Trap 4) ∷ items)) stands),
+      ))
 
   stack_line : (t : State) (x : Operand) (items : List Item) → Represents m a.labels s t → IsUsable m x → Stands a t (op_items m.homes (op.Service 4 (x ∷ operand.Word 1 ∷ [])) ++ items) → Serves a m s t items 7 (op_effect m s (op.Service 4 (x ∷ operand.Word 1 ∷ [])))
   unfolding op_items service_items full_items
   stack_line t x items is usable stands =
-      number_serves a m s t items 7 x (λ w. Ends (Full true w (stack_room s))) (λ w word.
-      (exit.Full true w (stack_room s), refl,
-      report t x w 7 5 s.top STACK_START 1 (exit.Full true w (stack_room s)) items is usable word is.top is.limit (λ e. absurd (omega (arith, e))) (λ e. absurd (omega (arith, e))) place.top_from (omega (arith, place.top_to, housed.stack))
-      (λ u zero_there one_there two_there. rw (zero_there, one_there, two_there) refl)
-      (subst (Stands a t) (append_assoc (load_items m.homes x 0 ++ left_items true) (Plain (Trap 4) ∷ []) items ∙ append_assoc (load_items m.homes x 0) (left_items true) (Plain (Trap 4) ∷ items)) stands)))
+      number_serves a m s t items 7 x (λ w. Ends (Full true w (stack_room s))) (λ w word. (
+        exit.Full true w (stack_room s),
+        refl,
+        report t x w 7 5 s.top STACK_START 1 (exit.Full true w (stack_room s)) items is usable word is.top is.limit (λ e. absurd (omega (arith, e))) (λ e. absurd (omega (arith, e))) place.top_from (omega (arith, place.top_to, housed.stack))
+            (λ u zero_there one_there two_there. rw (zero_there, one_there, two_there) refl)
+            (subst (Stands a t) (append_assoc (load_items m.homes x 0 ++ left_items true) (Plain (Trap 4) ∷ []) items ∙ append_assoc (load_items m.homes x 0) (left_items true) (Plain (Trap 4) ∷ items)) stands),
+      ))
 
 pub characters_arrive : CharactersArrive
 unfolding op_items service_items

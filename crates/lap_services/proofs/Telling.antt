@@ -1,19 +1,17 @@
 -- Ways behind each other, and a TRAP.
-use Rattle.std.proofs.Common.{◌≡◌, ℕ, zero, suc, ◌+◌, ◌-◌, ◌^◌, ◌<◌, ◌≤◌, inl, inr, List, [], ◌∷◌, ◌++◌, Option, Some, None, refl, ap, sym, subst, ◌∙◌, arith, append-nil}
+use Rattle.std.proofs.Common.{◌≡◌, ℕ, zero, suc, ◌+◌, ◌-◌, ◌^◌, ◌<◌, ◌≤◌, inl, inr, List, [], ◌∷◌, ◌++◌, Option, Some, None, refl, ap, sym, ◌∙◌, arith}
 use Rattle.program_runs.specs.Follows.{after}
 use Rattle.m68020_code.specs.declared.instr.Instr.TheVariants.{Trap}
 use Rattle.std.proofs.lemmas.Bool.Decides.{leb_tells}
 use Rattle.std.proofs.lemmas.Option.{slice_get_within}
 use Rattle.m68020_asm.proofs.LabelPlaces.{address_bound}
 use Rattle.m68020_step.proofs.InRange.{pc_fits}
-use Rattle.m68020_step.specs.Operand.{with_pc}
 use Rattle.m68020_step.specs.Step.{State}
 use Rattle.m68020_asm.specs.declared.item.Item.{Item}
 use Rattle.m68020_asm.specs.declared.item.Item.TheVariants.{Plain}
 use Rattle.machine_services.specs.declared.exit.Exit.{Exit}
 use Rattle.machine_services.specs.Services.{Served, Puts, Exits, serve}
 use Rattle.machine_services.specs.Runs.{Progress, served, followed}
-use Rattle.item_runs.specs.Laws.{behind}
 use Rattle.item_runs.specs.Runs.{item_act, item_further, item_machine}
 use Rattle.item_runs.proofs.Runs.{item_serves_at}
 use Rattle.lap_paths.specs.Paths.{Assembly, code, place_at, Stands, Path, at_pc, next_of}
@@ -48,6 +46,7 @@ module _ (a : Assembly) where
     where
       pc : ℕ
       pc = place_at a (s.place + 1)
+
       on_the_way : (i : ℕ) → i ≤ 1 → (q : Progress) → q.state ≡ t → q.end ≡ None → next_of (after step i q).state ≤ next_of (at_pc t pc)
       on_the_way zero le q is going = let same : next_of q.state ≡ next_of t = ap next_of is in omega (arith, same)
       on_the_way (suc zero) le q is going =
@@ -72,12 +71,16 @@ module _ (a : Assembly) where
     where
       pc : ℕ
       pc = place_at a (s.place + 1)
+
       bound : pc < 2 ^ 32
       bound = omega (arith, address_bound a.items a.assembled.widths (s.place + 1) a.can (omega (arith, slice_get_within a.items s.place (Plain (Trap vector)) s.sits.0)))
+
       p : Path a n (at_pc t pc) Q
       p = rest pc (record { place = s.place + 1; pc = refl; sits = s.sits.1; range = record { registers = pc_fits t.registers pc s.range.registers bound; storage = s.range.storage }; bytes = s.bytes })
+
       first : (q : Progress) → q.state ≡ t → q.end ≡ None → step q ≡ record { state = at_pc t pc; output = q.output ++ bytes; end = None; instructions = q.instructions + 1 }
       first q is going = acts t vector items s q is going ∙ ap (λ (x : Served). followed q (served (at_pc t pc) (place_at a s.place) x)) (puts pc)
+
       on_the_way : (i : ℕ) → i ≤ suc p.count → (q : Progress) → q.state ≡ t → q.end ≡ None → next_of (after step i q).state ≤ next_of p.to
       on_the_way zero le q is going =
           let same : next_of q.state ≡ next_of t = ap next_of is in
@@ -101,8 +104,10 @@ module _ (a : Assembly) where
     where
       r : Tells a k p.to bytes end Q
       r = p.there
+
       low : next_of p.to ≤ next_of r.to
       low = r.costs 0 (omega arith) (record { state = p.to; output = []; end = None; instructions = 0 }) refl refl
+
       on_the_way : (i : ℕ) → i ≤ p.count + r.count → (q : Progress) → q.state ≡ t → q.end ≡ None → next_of (after step i q).state ≤ next_of r.to
       on_the_way i le q is going = elim (leb_tells i p.count) [
         | inl x ↦ omega (arith, p.costs i x.1 q is going, low)

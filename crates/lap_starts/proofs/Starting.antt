@@ -1,35 +1,33 @@
 -- The machine at boot stands for the start of the words.
-use Rattle.std.proofs.Common.{◌≡◌, ◌≢◌, ℕ, zero, suc, ◌+◌, ◌-◌, ◌*◌, ◌/◌, ◌%◌, ◌^◌, ◌<◌, ◌≤◌, ◌==◌, ◌&&◌, ◌||◌, nat_lt, nat_le, Bool, true, false, List, [], ◌∷◌, ◌++◌, length, map, take, drop, get_or, replicate, Option, Some, None, slice_get, refl, ap, sym, subst, ◌∙◌, arith}
-use Rattle.std.specs.Prelude.{if◌then◌else◌, option_map, All, slice_index}
+use Rattle.std.proofs.Common.{◌≡◌, ℕ, zero, suc, ◌+◌, ◌-◌, ◌*◌, ◌/◌, ◌%◌, ◌^◌, ◌<◌, ◌≤◌, ◌==◌, ◌||◌, Bool, true, false, List, [], ◌∷◌, ◌++◌, length, take, drop, replicate, Option, Some, None, slice_get, refl, ap, sym, subst, ◌∙◌, arith}
+use Rattle.std.specs.Prelude.{option_map, All}
 use Rattle.std.specs.Int.{w32, from_be_bytes, to_be_bytes}
 use Rattle.std.specs.List.{flat_map, list_any, AllByRecursion}
 use Rattle.std.proofs.lemmas.Bool.{eq-eqb, le-leb, lt-ltb, le-ltb}
-use Rattle.std.proofs.lemmas.List.{drop-replicate, take-replicate, length-replicate, get_or-replicate, length-map}
+use Rattle.std.proofs.lemmas.List.{drop-replicate, take-replicate, length-replicate, get_or-replicate}
 use Rattle.std.proofs.lemmas.Nat.{from_be_bytes-to_be_bytes_4}
-use Rattle.std.proofs.lemmas.Option.{slice_get_within, slice_get_past, get_or_from_slice_get, slice_get-map}
+use Rattle.std.proofs.lemmas.Option.{slice_get_within, get_or_from_slice_get, slice_get-map}
 use Rattle.word_ir.specs.declared.placed.Home.{Home}
 use Rattle.word_ir.specs.declared.placed.Home.TheVariants as home
 use Rattle.word_ir.specs.declared.placed.Placed.{Placed}
 use Rattle.word_ir.specs.declared.words.StaticWord.{StaticWord}
 use Rattle.word_ir.specs.declared.words.StaticWord.TheVariants as first
-use Rattle.word_ir.specs.declared.words.Words.{Words}
-use Rattle.word_ir.specs.Word.{Word, Number, Code}
-use Rattle.word_ir.specs.Storage.{Sizes, STATICS_START, HEAP_START, STACK_START, static_at, place_from, long_at as word_long}
-use Rattle.word_ir.specs.State.{Setting, State as WordState, At, held, start, static_word, word_at, stack_end}
+use Rattle.word_ir.specs.Word.{Word, Number}
+use Rattle.word_ir.specs.Storage.{STATICS_START, HEAP_START, STACK_START, static_at, place_from}
+use Rattle.word_ir.specs.State.{Setting, At, held, start, static_word, stack_end}
 use Rattle.word_ir.specs.Step.{placed_in}
-use Rattle.word_ir.specs.Whole.{IsStatic, static_code, taken_blocks, each_line}
+use Rattle.word_ir.specs.Whole.{IsStatic, static_code, each_line}
 use Rattle.word_ir.specs.Lines.{codes_of}
 use Rattle.word_ir.specs.WholePlaced.{IsHome, IsWholePlaced}
-use Rattle.static_bytes.specs.Bytes.{long_of, bytes_of, static_bytes}
+use Rattle.static_bytes.specs.Bytes.{long_of, static_bytes}
 use Rattle.static_bytes.proofs.Order.{four_each, stand_in_order}
 use Rattle.m68020_step.specs.Boot.{is_size, boot_of}
 use Rattle.m68020_step.specs.Step.{State}
-use Rattle.m68020_step.specs.Storage.{Regions, lies_in, bytes_in, bytes_at, long_at}
+use Rattle.m68020_step.specs.Storage.{bytes_in, bytes_at, long_at}
 use Rattle.lap_items.specs.Ends.{is_taken}
-use Rattle.lap_runs.specs.Represents.{real, IsKnown, IsThere, HomeHas, HasWord, Represents}
+use Rattle.lap_runs.specs.Represents.{real, IsKnown, IsThere, HasWord, Represents}
 use Rattle.lap_paths.specs.Paths.{Assembly}
-use Rattle.lap_paths.specs.Housed.{IsHoused}
-use Rattle.lap_paths.proofs.Puts.{label_small, real_small}
+use Rattle.lap_paths.proofs.Puts.{real_small}
 use Rattle.lap_paths.proofs.WordStorage.{Stands, InStatics, InHeap, InStack, stands, is_whole, visible}
 use Rattle.lap_starts.specs.Laws.{StartsRepresented, HomesServe}
 
@@ -130,16 +128,20 @@ module _ (placed : Placed) (a : Assembly) (heap stack entry : ℕ) (whole : IsWh
       let word : Number 0 ≡ w = same_replicated (heap / 4) (place_from HEAP_START at) (Number 0) w there in
       let inside = slice_get_within (replicate (heap / 4) (Number 0)) (place_from HEAP_START at) w there in
       let d : at - HEAP_START + 4 ≤ heap = omega (arith, inside, length-replicate (heap / 4) (Number 0), by_four, low) in
-      subst (λ y. (long_at t.storage at ≡ Some (real a.labels y)) × IsKnown m y) word
-      (rw (le-ltb at STATICS_START (omega (arith, low)), le-ltb at HEAP_START low, lt-ltb at STACK_START high)
-      (long_in HEAP_START (replicate heap 0) at 0 low (omega (arith, d, length-replicate {A = ℕ} heap 0)) (omega arith) (zeros_there heap (at - HEAP_START) d)), omega arith)
+      subst (λ y. (long_at t.storage at ≡ Some (real a.labels y)) × IsKnown m y) word (
+        rw (le-ltb at STATICS_START (omega (arith, low)), le-ltb at HEAP_START low, lt-ltb at STACK_START high)
+            (long_in HEAP_START (replicate heap 0) at 0 low (omega (arith, d, length-replicate {A = ℕ} heap 0)) (omega arith) (zeros_there heap (at - HEAP_START) d)),
+        omega arith,
+      )
   words_hold at w (InStack low there) by_four =
       let word : Number 0 ≡ w = same_replicated (stack / 4) (place_from STACK_START at) (Number 0) w there in
       let inside = slice_get_within (replicate (stack / 4) (Number 0)) (place_from STACK_START at) w there in
       let d : at - STACK_START + 4 ≤ stack = omega (arith, inside, length-replicate (stack / 4) (Number 0), by_four, low) in
-      subst (λ y. (long_at t.storage at ≡ Some (real a.labels y)) × IsKnown m y) word
-      (rw (le-ltb at STATICS_START (omega (arith, low)), le-ltb at HEAP_START (omega (arith, low)), le-ltb at STACK_START low)
-      (long_in STACK_START (replicate stack 0) at 0 low (omega (arith, d, length-replicate {A = ℕ} stack 0)) (omega arith) (zeros_there stack (at - STACK_START) d)), omega arith)
+      subst (λ y. (long_at t.storage at ≡ Some (real a.labels y)) × IsKnown m y) word (
+        rw (le-ltb at STATICS_START (omega (arith, low)), le-ltb at HEAP_START (omega (arith, low)), le-ltb at STACK_START low)
+            (long_in STACK_START (replicate stack 0) at 0 low (omega (arith, d, length-replicate {A = ℕ} stack 0)) (omega arith) (zeros_there stack (at - STACK_START) d)),
+        omega arith,
+      )
 
   -- no home has a word
   homes_hold : (k : ℕ) (h : Home) (w : Word) → slice_get m.homes k ≡ Some h → held (start m) (At h) ≡ Some w → HasWord m a.labels t h w

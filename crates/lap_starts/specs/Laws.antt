@@ -1,5 +1,5 @@
 -- Laws of the start.
-use Rattle.std.specs.Prelude.{◌≡◌, ℕ, ◌^◌, ◌≤◌, IsTrue}
+use Rattle.std.specs.Prelude.{ℕ, ◌^◌, ◌≤◌, IsTrue}
 use Rattle.word_ir.specs.declared.placed.Placed.{Placed}
 use Rattle.word_ir.specs.Storage.{Sizes}
 use Rattle.word_ir.specs.State.{start}
