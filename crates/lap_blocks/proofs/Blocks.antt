@@ -14,7 +14,7 @@ use Rattle.lap_blocks.specs.Laws.{BlocksStand}
 
 -- ---- items at a place
 
-drop_head : (all : List Item) (k : ℕ) (x : Item) (rest : List Item) → drop k all ≡ x ∷ rest → (slice_get all k ≡ Some x) × (drop (k + 1) all ≡ rest)
+pub drop_head : (all : List Item) (k : ℕ) (x : Item) (rest : List Item) → drop k all ≡ x ∷ rest → (slice_get all k ≡ Some x) × (drop (k + 1) all ≡ rest)
 drop_head [] zero x rest is = absurd (cc)
 drop_head [] (suc k) x rest is = absurd (cc)
 drop_head (y ∷ all) zero x rest is = let same : y ≡ x = cc in (ap Some same, cc)
@@ -27,23 +27,23 @@ sits_there : (all : List Item) (k : ℕ) (part rest : List Item) → drop k all 
 sits_there all k [] rest is = tt
 sits_there all k (x ∷ part) rest is = let h = drop_head all k x (part ++ rest) is in (h.0, sits_there all (k + 1) part rest h.1)
 
-drop_front : (front rest : List Item) → drop (length front) (front ++ rest) ≡ rest
+pub drop_front : (front rest : List Item) → drop (length front) (front ++ rest) ≡ rest
 drop_front [] rest = refl
 drop_front (x ∷ front) rest = drop_front front rest
 
-drop_further : (all : List Item) (k j : ℕ) → drop (k + j) all ≡ drop j (drop k all)
+pub drop_further : (all : List Item) (k j : ℕ) → drop (k + j) all ≡ drop j (drop k all)
 drop_further all k j = sym (drop-drop j k all)
 
 -- ---- a block's place
 
-record Found (placed : Placed) (b : ℕ) (block : WordBlock) (items : List Item) : Type 0 where
-  place : ℕ
-  part : List Item
-  rest : List Item
-  is : IsBlock placed b block part
-  there : drop place items ≡ part ++ rest
+pub record Found (placed : Placed) (b : ℕ) (block : WordBlock) (items : List Item) : Type 0 where
+  pub place : ℕ
+  pub part : List Item
+  pub rest : List Item
+  pub is : IsBlock placed b block part
+  pub there : drop place items ≡ part ++ rest
 
-found : (placed : Placed) (blocks : List WordBlock) (b j : ℕ) (block : WordBlock) (items : List Item) → AreBlocks placed b blocks items → slice_get blocks j ≡ Some block → Found placed (b + j) block items
+unfoldable pub found : (placed : Placed) (blocks : List WordBlock) (b j : ℕ) (block : WordBlock) (items : List Item) → AreBlocks placed b blocks items → slice_get blocks j ≡ Some block → Found placed (b + j) block items
 found placed [] b j block items are here = absurd (cc)
 found placed (x ∷ blocks) b zero block items are here =
     let same : x ≡ block = cc in
