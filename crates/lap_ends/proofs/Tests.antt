@@ -1,16 +1,15 @@
 -- A test goes on in one of two blocks.
-use Rattle.std.proofs.Common.{◌≡◌, ◌≢◌, ℕ, suc, ◌+◌, ◌%◌, ◌^◌, ◌<◌, ◌≤◌, ◌==◌, nat_lt, Bool, true, false, not, List, [], ◌∷◌, ◌++◌, Option, Some, None, inl, inr, refl, ap, sym, subst, ◌∙◌, arith, append_assoc}
+use Rattle.std.proofs.Common.{◌≡◌, ℕ, suc, ◌%◌, ◌^◌, ◌<◌, ◌==◌, nat_lt, Bool, true, false, List, [], ◌∷◌, ◌++◌, Some, None, inl, inr, refl, ap, sym, subst, ◌∙◌, arith, append_assoc}
 use Rattle.std.specs.Prelude.{if◌then◌else◌, bit_and, slice_index}
 use Rattle.std.proofs.lemmas.Bool.{ltb-true, eqb-true}
 use Rattle.std.proofs.lemmas.Bool.Decides.{eqb_tells}
 use Rattle.word_ir.specs.declared.operands.Operand.{Operand}
 use Rattle.word_ir.specs.declared.words.Test.{Test}
 use Rattle.word_ir.specs.declared.words.Test.TheVariants as test
-use Rattle.word_ir.specs.declared.words.WordEnd.TheVariants as last
-use Rattle.word_ir.specs.Word.{Word, Number, Code, number_of}
+use Rattle.word_ir.specs.Word.{Word, Number, Code}
 use Rattle.word_ir.specs.Computing.{compared, is_of_tag}
 use Rattle.word_ir.specs.State.{Setting, State as WordState}
-use Rattle.word_ir.specs.Effects.{Effect, Turns, word_of, or_broken, turned, end_effect, test_effect}
+use Rattle.word_ir.specs.Effects.{Effect, word_of, or_broken, turned, test_effect}
 use Rattle.word_ir.specs.Ranges.{IsInPlace}
 use Rattle.m68020_code.specs.declared.instr.Cond.{Cond}
 use Rattle.m68020_code.specs.declared.instr.Cond.TheVariants.{Bra}
@@ -20,14 +19,16 @@ use Rattle.m68020_step.specs.declared.registers.Flags.{Flags}
 use Rattle.m68020_step.specs.ConditionCodes.{holds, flags_of_comparison, flags_of_result}
 use Rattle.m68020_step.specs.Operand.{data_at}
 use Rattle.m68020_step.specs.Step.{State}
+use Rattle.m68020_step.specs.Word.{difference_of}
+use Rattle.word_ir.specs.Whole.{is_test_sized}
 use Rattle.m68020_asm.specs.declared.item.Item.{Item}
 use Rattle.m68020_asm.specs.declared.item.Item.TheVariants.{Plain, Branch}
 use Rattle.lap_items.specs.Operands.{source_items, source_of, load_items}
 use Rattle.lap_items.specs.Ends.{condition_of, comparing_items, test_items}
 use Rattle.lap_runs.specs.Represents.{real, IsKnown, Represents}
-use Rattle.lap_paths.specs.Paths.{Assembly, Stands, Path, Reads, Beside, at_pc}
+use Rattle.lap_paths.specs.Paths.{Assembly, Stands, Reads, at_pc}
 use Rattle.lap_paths.specs.Housed.{IsHoused, IsUsable}
-use Rattle.lap_paths.proofs.Steps.{branch}
+use Rattle.lap_paths.proofs.Steps.{branch, widen}
 use Rattle.lap_paths.proofs.Besides.{beside_represents, beside_pc}
 use Rattle.lap_paths.proofs.Loads.{source_goes, load_goes}
 use Rattle.lap_paths.proofs.Puts.{real_small}
@@ -143,3 +144,45 @@ module _ (a : Assembly) (m : Setting) (s : WordState) (housed : IsHoused m) (pla
         (λ z c. turns z (condition_of k) at_true at_false b items c.0
         (ap (holds (condition_of k)) (c.1 ∙ ap (λ (n : ℕ). flags_of_comparison q.registers.flags n (real a.labels w)) r.1)
         ∙ told a m codes q.registers.flags k v w b two (operand_known a m s housed place t x v is usable_x first) (operand_known a m s housed place t y w is usable_y second) answer) c.2)))))
+
+    parted : (k : Test) → Stands a t (test_items m.homes k x y at_true at_false ++ items) → Stands a t (load_items m.homes x 7 ++ (comparing_items m.homes k y ++ Branch (condition_of k) at_true ∷ Branch Bra at_false ∷ items))
+    unfolding test_items
+    parted k stands =
+        let both : List Item = Branch (condition_of k) at_true ∷ Branch Bra at_false ∷ [] in
+        subst (Stands a t) (append_assoc (load_items m.homes x 7 ++ comparing_items m.homes k y) both items ∙ append_assoc (load_items m.homes x 7) (comparing_items m.homes k y) (both ++ items)) stands
+
+    compared_parts : (c : Cond) → Stands a t (load_items m.homes x 7 ++ ((source_items y ++ Plain (CmpL (source_of m.homes y) 7) ∷ []) ++ Branch c at_true ∷ Branch Bra at_false ∷ items))
+        → Stands a t (load_items m.homes x 7 ++ (source_items y ++ Plain (CmpL (source_of m.homes y) 7) ∷ Branch c at_true ∷ Branch Bra at_false ∷ items))
+    compared_parts c stands =
+        subst (λ l. Stands a t (load_items m.homes x 7 ++ l)) (append_assoc (source_items y) (Plain (CmpL (source_of m.homes y) 7) ∷ []) (Branch c at_true ∷ Branch Bra at_false ∷ items)) stands
+
+    tag_told : (tag : ℕ) (v : Word) (b : Bool) → tag < 2 ^ 32 → compared (test.TagIs tag) v v ≡ Some b → (difference_of (bit_and (real a.labels v) 3) tag == 0) ≡ b
+    tag_told tag (Number n) b small is = let same : (n % 4 == tag) ≡ b = cc in low_bits n tag small ∙ same
+    tag_told tag (Code c) b small is = absurd (cc)
+
+    tag_line : (tag : ℕ) → tag < 2 ^ 32 → Stands a t (load_items m.homes x 7 ++ (Plain (AndiL 3 (D 7)) ∷ Plain (CmpiL tag (D 7)) ∷ Branch (condition_of (test.TagIs tag)) at_true ∷ Branch Bra at_false ∷ items)) → (v : Word) → word_of m s x ≡ Some v
+        → Arrives a m s t items 8 (or_broken (compared (test.TagIs tag) v v) (turned at_true at_false))
+    tag_line tag small stands v first =
+        or_arrives a m s t items 8 (compared (test.TagIs tag) v v) (turned at_true at_false) (λ b answer.
+        loaded_word t x v 5 _ items (turned at_true at_false b) is usable_x first stands (λ u p.
+        prefixed a m s u items 2 5 (λ z. Represents m a.labels s z × (holds (condition_of (test.TagIs tag)) z.registers.flags ≡ b) × Stands a z (Branch (condition_of (test.TagIs tag)) at_true ∷ Branch Bra at_false ∷ items)) (turned at_true at_false b)
+        (λ Q go. gives a 4 u (AndiL 3 (D 7)) 7 (bit_and (data_at u.registers 7) 3) (flags_of_result u.registers.flags (bit_and (data_at u.registers 7) 3)) _ Q (omega arith) p.2 (λ at pc. does_and_immediate u 3 7 at pc)
+        (λ w beside there flags stands2.
+        let at_w = beside_represents m a.labels 7 s u w housed (omega arith) p.0 beside in
+        widen a 3 4 w Q (omega arith) (omega arith)
+        (compares a 2 w (CmpiL tag (D 7)) (flags_of_comparison w.registers.flags (data_at w.registers 7) tag) _ Q stands2 (λ at pc. does_compare_immediate w tag 7 at pc)
+        (λ z more codes2 stands3.
+        let bits : data_at w.registers 7 ≡ bit_and (real a.labels v) 3 = there ∙ ap (λ (n : ℕ). bit_and n 3) p.1 in
+        let zero_there : z.registers.flags.z ≡ b = ap (λ f. f.z) codes2 ∙ ap (λ (n : ℕ). difference_of n tag == 0) bits ∙ tag_told tag v b small answer in
+        go z (beside_represents m a.labels 8 s w z housed (omega arith) at_w more, zero_there, stands3)))))
+        (λ z c. turns z (condition_of (test.TagIs tag)) at_true at_false b items c.0 c.1 c.2)))
+
+    pub test_line : (k : Test) → is_test_sized k ≡ true → Stands a t (test_items m.homes k x y at_true at_false ++ items) → Arrives a m s t items 8 (test_effect m s k x y at_true at_false)
+    unfolding comparing_items
+    test_line test.Eq sized stands = or_arrives a m s t items 8 (word_of m s x) (λ v. or_broken (word_of m s y) (λ w. or_broken (compared test.Eq v w) (turned at_true at_false))) (two_words test.Eq refl (compared_parts _ (parted test.Eq stands)))
+    test_line test.Lt sized stands = or_arrives a m s t items 8 (word_of m s x) (λ v. or_broken (word_of m s y) (λ w. or_broken (compared test.Lt v w) (turned at_true at_false))) (two_words test.Lt refl (compared_parts _ (parted test.Lt stands)))
+    test_line test.Le sized stands = or_arrives a m s t items 8 (word_of m s x) (λ v. or_broken (word_of m s y) (λ w. or_broken (compared test.Le v w) (turned at_true at_false))) (two_words test.Le refl (compared_parts _ (parted test.Le stands)))
+    test_line test.Below sized stands = or_arrives a m s t items 8 (word_of m s x) (λ v. or_broken (word_of m s y) (λ w. or_broken (compared test.Below v w) (turned at_true at_false))) (two_words test.Below refl (compared_parts _ (parted test.Below stands)))
+    test_line (test.TagIs tag) sized stands =
+        let small : tag < 2 ^ 8 = ltb-true tag (2 ^ 8) sized in
+        or_arrives a m s t items 8 (word_of m s x) (λ v. or_broken (compared (test.TagIs tag) v v) (turned at_true at_false)) (tag_line tag (omega (arith, small)) (parted (test.TagIs tag) stands))

@@ -1,7 +1,6 @@
 -- Words of storage as operands.
-use Rattle.std.proofs.Common.{◌≡◌, ◌≢◌, ℕ, suc, ◌+◌, ◌*◌, ◌%◌, ◌^◌, ◌<◌, ◌≤◌, Bool, true, false, List, [], ◌∷◌, ◌++◌, length, Option, Some, None, slice_get, refl, ap, sym, subst, ◌∙◌, arith, append_assoc}
-use Rattle.std.specs.Prelude.{if◌then◌else◌, ℤ, pos, negsuc, ◌+ℤ◌, Ok, slice_index}
-use Rattle.std.specs.Option.{option_map_or}
+use Rattle.std.proofs.Common.{◌≡◌, ℕ, suc, ◌+◌, ◌*◌, ◌^◌, ◌<◌, Bool, true, false, List, [], ◌∷◌, ◌++◌, Some, slice_get, refl, ap, sym, subst, ◌∙◌, arith, append_assoc}
+use Rattle.std.specs.Prelude.{if◌then◌else◌, ℤ, pos, ◌+ℤ◌}
 use Rattle.std.proofs.lemmas.List.{get_or-set_same}
 use Rattle.std.proofs.lemmas.Option.{get_or_from_slice_get, slice_get_within}
 use Rattle.word_ir.specs.declared.operands.Operand.{Operand}
@@ -11,27 +10,24 @@ use Rattle.word_ir.specs.declared.placed.Home.TheVariants as home
 use Rattle.word_ir.specs.Word.{Word, Number, moved, wrap, unsigned}
 use Rattle.word_ir.specs.Whole.{is_signed}
 use Rattle.word_ir.specs.Storage.{static_at, STACK_START, place_from}
-use Rattle.word_ir.specs.State.{Setting, State as WordState, Own, At, held, word_at}
+use Rattle.word_ir.specs.State.{Setting, State as WordState, word_at}
 use Rattle.word_ir.specs.Effects.{word_of}
 use Rattle.word_ir.specs.Ranges.{IsInPlace}
 use Rattle.m68020_code.specs.declared.instr.Ea.{Ea}
-use Rattle.m68020_code.specs.declared.instr.Ea.TheVariants.{D, Disp, Abs, Imm}
-use Rattle.m68020_code.specs.declared.instr.Ea.TheVariants as ea
-use Rattle.m68020_code.specs.declared.instr.Instr.TheVariants.{MoveL, MoveaL}
+use Rattle.m68020_code.specs.declared.instr.Ea.TheVariants.{D, Abs, Imm}
+use Rattle.m68020_code.specs.declared.instr.Instr.TheVariants.{MoveL}
 use Rattle.m68020_step.specs.declared.registers.Effect.TheVariants.{Nothing}
 use Rattle.m68020_step.specs.ConditionCodes.{flags_of_result}
-use Rattle.m68020_step.specs.declared.operand.OperandSize.TheVariants.{Long}
 use Rattle.m68020_step.specs.declared.operand.Place.TheVariants.{Memory}
-use Rattle.m68020_step.specs.Operand.{Fetched, with_pc, with_data, with_flags, data_at, address_at, located, at_rest, address_of, index_of, read_long, long_operand, or_bad_address}
+use Rattle.m68020_step.specs.Operand.{with_pc, with_data, with_flags, data_at, address_at, located, at_rest, address_of, index_of, read_long, long_operand}
 use Rattle.m68020_step.specs.Step.{State}
 use Rattle.m68020_step.specs.Storage.{long_at}
 use Rattle.m68020_step.specs.Word.{sum_of}
 use Rattle.m68020_asm.specs.declared.item.Item.{Item}
 use Rattle.m68020_asm.specs.declared.item.Item.TheVariants.{Plain}
 use Rattle.lap_items.specs.Homes.{home_of, at_home}
-use Rattle.lap_items.specs.Operands.{index_d}
 use Rattle.lap_items.specs.Storage.{is_near, far_items, from_register, base_items, base_of, access_items, access_of}
-use Rattle.lap_runs.specs.Represents.{real, IsKnown, HomeHas, Represents}
+use Rattle.lap_runs.specs.Represents.{HomeHas, Represents}
 use Rattle.lap_paths.specs.Paths.{Assembly, Stands, Path, Reads, Beside}
 use Rattle.lap_paths.specs.Housed.{IsHoused, IsUsable}
 use Rattle.lap_paths.proofs.Steps.{act, widen}
@@ -96,32 +92,29 @@ module _ (a : Assembly) (m : Setting) (housed : IsHoused m) where
   unfolding access_items access_of
   access_goes n s t (operand.Word k) at z items Q place is usable word small near stands rest =
       let same : k ≡ at = cc in
-      let there : sum_of k (unsigned z) ≡ moved at z = ap (λ (x : ℕ). sum_of x (unsigned z)) same ∙ address_moved at z (subst (λ (x : ℕ). x < 2 ^ 32) same usable) small near in
+      let there : sum_of k (unsigned z) ≡ moved at z = ap (λ (x : ℕ). sum_of x (unsigned z)) same ∙ address_moved at z small near in
       widen a (suc n) (suc (suc (suc n))) t Q (omega arith) (omega arith)
       (rest t (record { storage = refl; numbers = λ i lt ne. refl; addresses = λ i ne. refl }) (subst (Places t (Abs (sum_of k (unsigned z)))) there (absolute_places t (sum_of k (unsigned z)))) stands)
   access_goes n s t (operand.Static p) at z items Q place is usable word small near stands rest =
       let same : static_at p ≡ at = cc in
-      let lt : at < 2 ^ 32 = omega (arith, same) in
-      let there : sum_of (static_at p) (unsigned z) ≡ moved at z = ap (λ (x : ℕ). sum_of x (unsigned z)) same ∙ address_moved at z lt small near in
+      let there : sum_of (static_at p) (unsigned z) ≡ moved at z = ap (λ (x : ℕ). sum_of x (unsigned z)) same ∙ address_moved at z small near in
       widen a (suc n) (suc (suc (suc n))) t Q (omega arith) (omega arith)
       (rest t (record { storage = refl; numbers = λ i lt ne. refl; addresses = λ i ne. refl }) (subst (Places t (Abs (sum_of (static_at p) (unsigned z)))) there (absolute_places t (sum_of (static_at p) (unsigned z)))) stands)
   access_goes n s t (operand.Code block) at z items Q place is usable word small near stands rest = absurd (cc)
   access_goes n s t (operand.Var v) at z items Q place is usable word small near stands rest =
       let h = usable.0 in
       let has = variable_has a m housed s t v.0 (Number at) h is usable.1 word in
-      let known = (is.homes v.0 h (Number at) usable.1 (sym (ap (λ (o : Option Home). held s (option_map_or At o (Own v.0))) usable.1) ∙ word)).1 in
       let same : home_of m.homes v ≡ h = get_or_from_slice_get m.homes v.0 h (home.D 0) usable.1 in
       let here : Stands a t (base_items h ++ (far_items z (unsigned z) ++ items)) =
       subst (Stands a t) (append_assoc (base_items h) (far_items z (unsigned z)) items) (subst (λ x. Stands a t ((base_items x ++ far_items z (unsigned z)) ++ items)) same stands) in
       base_goes (suc n) s t v.0 h at (far_items z (unsigned z) ++ items) Q place is usable.1 has here
       (λ u beside base stands2.
-      let there : sum_of (address_at u.registers (base_of h)) (unsigned z) ≡ moved at z = ap (λ (x : ℕ). sum_of x (unsigned z)) base ∙ address_moved at z known small near in
+      let there : sum_of (address_at u.registers (base_of h)) (unsigned z) ≡ moved at z = ap (λ (x : ℕ). sum_of x (unsigned z)) base ∙ address_moved at z small near in
       far_goes n u (base_of h) z (unsigned z) (moved at z) items Q there there stands2
       (λ w more places stands3. rest w (beside_trans 6 t u w (beside_none 6 t u beside) more) (subst (λ x. Places w (from_register (base_of x) z) (moved at z)) (sym same) places) stands3))
   access_goes n s t (operand.Slot bytes) at z items Q place is usable word small near stands rest =
       let same : wrap (s.top + bytes) ≡ at = cc in
-      let lt : at < 2 ^ 32 = omega (arith, same) in
-      let there : sum_of (address_at t.registers 7) (sum_of bytes (unsigned z)) ≡ moved at z = omega (arith, is.top, same, address_moved at z lt small near) in
+      let there : sum_of (address_at t.registers 7) (sum_of bytes (unsigned z)) ≡ moved at z = omega (arith, is.top, same, address_moved at z small near) in
       let direct : sum_of (address_at t.registers 7) (unsigned (pos bytes +ℤ z)) ≡ moved at z = slot_moved bytes z (address_at t.registers 7) usable small ∙ there in
       widen a (suc (suc n)) (suc (suc (suc n))) t Q (omega arith) (omega arith)
       (far_goes n t 7 (pos bytes +ℤ z) (sum_of bytes (unsigned z)) (moved at z) items Q direct there stands rest)

@@ -1,6 +1,6 @@
 -- Instructions that give a number or set the condition codes.
-use Rattle.std.proofs.Common.{◌≡◌, ℕ, suc, ◌^◌, ◌<◌, ◌≤◌, ◌==◌, nat_lt, Bool, true, false, List, ◌∷◌, refl, ap, sym, ◌∙◌, arith}
-use Rattle.std.specs.Prelude.{bit_and, bit_or, if◌then◌else◌}
+use Rattle.std.proofs.Common.{◌≡◌, ℕ, suc, ◌<◌, List, ◌∷◌, refl, arith}
+use Rattle.std.specs.Prelude.{bit_and, bit_or}
 use Rattle.std.proofs.lemmas.List.{get_or-set_same}
 use Rattle.m68020_code.specs.declared.instr.Ea.{Ea}
 use Rattle.m68020_code.specs.declared.instr.Ea.TheVariants.{D}
@@ -11,7 +11,7 @@ use Rattle.m68020_step.specs.declared.registers.Flags.{Flags}
 use Rattle.m68020_step.specs.Arithmetic.{add_long, subtract_long, compare_long, compare_immediate, multiply_long}
 use Rattle.m68020_step.specs.Logic.{and_long, or_long, and_immediate}
 use Rattle.m68020_step.specs.ConditionCodes.{flags_of_result, flags_of_sum, flags_of_difference, flags_of_comparison, flags_of_product}
-use Rattle.m68020_step.specs.Operand.{◌>>=◌, next, with_pc, with_data, with_flags, data_at, located, read_long, long_operand, store_long, change_long}
+use Rattle.m68020_step.specs.Operand.{next, with_pc, with_data, with_flags, data_at, located, read_long, long_operand, store_long, change_long}
 use Rattle.m68020_step.specs.Step.{State, executed}
 use Rattle.m68020_step.specs.Word.{sum_of, difference_of, product_of}
 use Rattle.m68020_asm.specs.declared.item.Item.{Item}

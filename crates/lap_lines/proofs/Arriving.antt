@@ -1,5 +1,5 @@
 -- Effects by their parts.
-use Rattle.std.proofs.Common.{◌≡◌, ℕ, suc, ◌+◌, ◌*◌, Bool, true, false, List, [], ◌∷◌, Option, Some, None, slice_get, refl, ap, sym, subst, ◌∙◌, arith}
+use Rattle.std.proofs.Common.{◌≡◌, ℕ, ◌+◌, Bool, true, false, List, ◌∷◌, Option, Some, None, slice_get, refl, ap, sym, subst, ◌∙◌}
 use Rattle.std.specs.Prelude.{if◌then◌else◌}
 use Rattle.std.specs.Option.{option_map_or}
 use Rattle.std.proofs.lemmas.Option.{get_or_from_slice_get}
@@ -8,9 +8,8 @@ use Rattle.word_ir.specs.declared.operands.Operand.{Operand}
 use Rattle.word_ir.specs.declared.placed.Home.{Home}
 use Rattle.word_ir.specs.declared.placed.Home.TheVariants as home
 use Rattle.word_ir.specs.Word.{Word, Number, Code, number_of}
-use Rattle.word_ir.specs.State.{Setting, State as WordState, Env, Keeper, Own, At, keeper_of, held, hold, has_room}
-use Rattle.word_ir.specs.Storage.{Regions, long_at}
-use Rattle.word_ir.specs.Effects.{Effect, Binds, Ends, breaks, or_broken, word_of, with_number, kept_at, binds}
+use Rattle.word_ir.specs.State.{Setting, State as WordState, Keeper, Own, At, keeper_of, held, hold, has_room}
+use Rattle.word_ir.specs.Effects.{Effect, breaks, or_broken, word_of, with_number, kept_at}
 use Rattle.word_ir.specs.Step.{on, into}
 use Rattle.word_ir.specs.Ranges.{IsInPlace}
 use Rattle.m68020_code.specs.declared.instr.Ea.{Ea}

@@ -7,3 +7,7 @@ pub mod Stack
 pub mod Sums
 pub mod Quotients
 pub mod Lines
+pub mod Bytes
+pub mod LoadBytes
+pub mod ShiftNumbers
+pub mod Shifts

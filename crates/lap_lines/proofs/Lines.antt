@@ -1,10 +1,12 @@
 -- The laws.
 use Rattle.std.proofs.Common.{◌^◌}
 use Rattle.std.proofs.lemmas.Bool.{ltb-true}
-use Rattle.lap_lines.specs.Laws.{MovesArrive, LoadsArrive, StoresArrive, TakesArrive, PushesArrive, PopsArrive, ResetsArrive, SumsArrive}
+use Rattle.lap_lines.specs.Laws.{MovesArrive, LoadsArrive, BytesArrive, StoresArrive, TakesArrive, PushesArrive, PopsArrive, ResetsArrive, SumsArrive, ShiftsArrive}
 use Rattle.lap_lines.proofs.Moves.{move_line, load_line, store_line}
+use Rattle.lap_lines.proofs.LoadBytes.{load_byte_line}
 use Rattle.lap_lines.proofs.Stack.{take_line, push_line, pop_line, reset_line}
 use Rattle.lap_lines.proofs.Sums.{add_line, subtract_line, multiply_line, and_line, or_line}
+use Rattle.lap_lines.proofs.Shifts.{shift_line}
 use Rattle.lap_lines.proofs.Quotients.{quotient_line, remainder_line}
 
 pub moves_arrive : MovesArrive
@@ -12,6 +14,9 @@ moves_arrive to from a m s t items housed place is fine stands = move_line a m s
 
 pub loads_arrive : LoadsArrive
 loads_arrive to base offset a m s t items housed place is fine stands = load_line a m s housed place t items to base offset is fine.binds.0 fine.operands.0 fine.sized stands
+
+pub bytes_arrive : BytesArrive
+bytes_arrive to base index offset a m s t items housed place is fine stands = load_byte_line a m s housed place t items to base index offset is fine.binds.0 fine.operands.0 fine.operands.1.0 fine.sized stands
 
 pub stores_arrive : StoresArrive
 stores_arrive base from offset a m s t items housed place is fine stands = store_line a m s housed place t items base from offset is fine.operands.0 fine.operands.1.0 fine.sized stands
@@ -38,3 +43,6 @@ sums_arrive = record {
   both = λ to x y over a m s t items housed place is fine stands. and_line a m s housed place t items to x y over is fine.binds.0 fine.operands.0 fine.operands.1.0 stands;
   either = λ to x y over a m s t items housed place is fine stands. or_line a m s housed place t items to x y over is fine.binds.0 fine.operands.0 fine.operands.1.0 stands;
 }
+
+pub shifts_arrive : ShiftsArrive
+shifts_arrive count to x y over a m s t items housed place is fine stands = shift_line a m s housed place t items to x y over is fine.binds.0 fine.operands.0 count stands

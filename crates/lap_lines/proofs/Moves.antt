@@ -1,5 +1,5 @@
 -- Moves, loads and stores.
-use Rattle.std.proofs.Common.{◌≡◌, ℕ, zero, suc, ◌+◌, ◌^◌, ◌<◌, ◌≤◌, Bool, true, false, List, [], ◌∷◌, ◌++◌, Option, Some, None, refl, ap, sym, subst, ◌∙◌, arith, append_assoc}
+use Rattle.std.proofs.Common.{◌≡◌, ℕ, suc, ◌+◌, ◌^◌, true, List, [], ◌∷◌, ◌++◌, Option, Some, None, refl, ap, sym, subst, ◌∙◌, arith, append_assoc}
 use Rattle.std.specs.Prelude.{ℤ, is_some, if◌then◌else◌}
 use Rattle.std.specs.Option.{option_map_or}
 use Rattle.std.proofs.lemmas.Option.{get_or_from_slice_get}
@@ -12,19 +12,17 @@ use Rattle.word_ir.specs.Storage.{static_at}
 use Rattle.word_ir.specs.declared.placed.Home.{Home}
 use Rattle.word_ir.specs.declared.placed.Home.TheVariants as home
 use Rattle.word_ir.specs.Whole.{is_signed}
-use Rattle.word_ir.specs.State.{Setting, State as WordState, Own, At, held, hold, keeper_of, word_at, has_room}
-use Rattle.word_ir.specs.Effects.{Effect, Binds, Stores, breaks, word_of, binds, op_effect, store_effect, with_word, with_word_at}
+use Rattle.word_ir.specs.State.{Setting, State as WordState, Own, At, held, hold, keeper_of, word_at}
+use Rattle.word_ir.specs.Effects.{Binds, Stores, breaks, word_of, binds, op_effect, store_effect, with_word, with_word_at}
 use Rattle.word_ir.specs.Step.{on, changed}
 use Rattle.word_ir.specs.Ranges.{IsInPlace}
-use Rattle.m68020_code.specs.declared.instr.Ea.{Ea}
-use Rattle.m68020_code.specs.declared.instr.Ea.TheVariants.{D, Imm}
+use Rattle.m68020_code.specs.declared.instr.Ea.TheVariants.{Imm}
 use Rattle.m68020_code.specs.declared.instr.Instr.TheVariants.{MoveL}
-use Rattle.m68020_step.specs.Operand.{data_at}
 use Rattle.m68020_step.specs.Step.{State}
 use Rattle.m68020_asm.specs.declared.item.Item.{Item}
 use Rattle.m68020_asm.specs.declared.item.Item.TheVariants.{Plain}
 use Rattle.lap_items.specs.Homes.{home_of, at_home, put_into}
-use Rattle.lap_items.specs.Operands.{source_items, source_of, load_items}
+use Rattle.lap_items.specs.Operands.{source_items, source_of}
 use Rattle.lap_items.specs.Storage.{access_items, access_of, read_items, kept_items, kept_of, write_items}
 use Rattle.lap_items.specs.Operations.{move_items, op_items}
 use Rattle.lap_runs.specs.Represents.{real, IsKnown, Represents}
@@ -36,7 +34,7 @@ use Rattle.lap_paths.proofs.Loads.{source_goes, load_goes, reads_data, reads_num
 use Rattle.lap_paths.proofs.Writes.{written, write_goes, can, stored_represents}
 use Rattle.lap_paths.proofs.Puts.{real_small}
 use Rattle.lap_lines.specs.Arrives.{Behind, Arrives}
-use Rattle.lap_lines.proofs.Arriving.{or_arrives, if_arrives, number_arrives, kept_arrives, bind_goes, going_on}
+use Rattle.lap_lines.proofs.Arriving.{or_arrives, number_arrives, kept_arrives, bind_goes, going_on}
 use Rattle.lap_lines.proofs.Access.{reached_small, place_reads, access_goes}
 
 module _ (a : Assembly) (m : Setting) (s : WordState) (housed : IsHoused m) (place : IsInPlace m s) where

@@ -1,5 +1,5 @@
 -- Numbers of 32 bits, with and without a sign.
-use Rattle.std.proofs.Common.{◌≡◌, ◌≢◌, ℕ, zero, suc, ◌+◌, ◌-◌, ◌*◌, ◌%◌, ◌^◌, ◌<◌, ◌≤◌, Bool, true, false, not, inl, inr, refl, ap, sym, subst, ◌∙◌, arith}
+use Rattle.std.proofs.Common.{◌≡◌, ℕ, suc, ◌+◌, ◌-◌, ◌^◌, ◌<◌, true, inl, inr, refl, ap, sym, ◌∙◌, arith}
 use Rattle.std.specs.Prelude.{ℤ, pos, negsuc, ◌+ℤ◌, ◌-ℤ◌, ◌*ℤ◌, FitsSigned}
 use Rattle.std.specs.Int.{w32}
 use Rattle.std.proofs.lemmas.Int.{wrapping_add-bits, wrapping_sub-bits, wrapping_mul-bits, int_wrap_fits, of_z-to_z}
@@ -11,15 +11,20 @@ use Rattle.m68020_code.specs.Table.{fits as fits_half}
 use Rattle.m68020_step.specs.Word.{sum_of, difference_of, product_of}
 
 -- an address that is so far from another one, where it is one
-pub address_moved : (n : ℕ) (z : ℤ) → n < 2 ^ 32 → is_signed (2 ^ 31) z ≡ true → moved n z < 2 ^ 32 → sum_of n (unsigned z) ≡ moved n z
-address_moved n (pos k) lt small near =
+pub address_moved : (n : ℕ) (z : ℤ) → is_signed (2 ^ 31) z ≡ true → moved n z < 2 ^ 32 → sum_of n (unsigned z) ≡ moved n z
+address_moved n (pos k) small near =
     let a : unsigned (pos k) ≡ k = refl in
     let b : moved n (pos k) ≡ n + k = refl in
-    omega (arith, lt, ltb-true k (2 ^ 31) small, near, a, b)
-address_moved n (negsuc k) lt small near = elim (leb_tells (suc n) (suc k)) [
-  | inl p ↦ rw p.0 (omega (arith, lt, p.1, ltb-true k (2 ^ 31) small))
-  | inr p ↦ rw p.0 (omega (arith, lt, p.1, ltb-true k (2 ^ 31) small))
+    omega (arith, ltb-true k (2 ^ 31) small, near, a, b)
+address_moved n (negsuc k) small near = elim (leb_tells (suc n) (suc k)) [
+  | inl p ↦ rw p.0 (omega (arith, p.1, ltb-true k (2 ^ 31) small))
+  | inr p ↦
+      let there : moved n (negsuc k) ≡ n - suc k = rw p.0 refl in
+      there_is n k p.1 (ltb-true k (2 ^ 31) small) (omega (arith, near, there)) ∙ sym there
 ]
+  where
+    there_is : (n k : ℕ) → suc k < suc n → k < 2 ^ 31 → n - suc k < 2 ^ 32 → sum_of n (unsigned (negsuc k)) ≡ n - suc k
+    there_is n k le small near = omega arith
 
 -- so far from a slot
 pub slot_moved : (bytes : ℕ) (z : ℤ) (top : ℕ) → bytes < 2 ^ 32 → is_signed (2 ^ 31) z ≡ true → sum_of top (unsigned (pos bytes +ℤ z)) ≡ sum_of top (sum_of bytes (unsigned z))
@@ -36,7 +41,7 @@ pub same_fits : (z : ℤ) → fits_half (2 ^ 31) z ≡ fits z
 same_fits (pos n) = refl
 same_fits (negsuc n) = refl
 
-fits_signed : (z : ℤ) → fits z ≡ true → FitsSigned w32 z
+pub fits_signed : (z : ℤ) → fits z ≡ true → FitsSigned w32 z
 fits_signed (pos n) e = record { sfits = ltb-true n (2 ^ 31) e }
 fits_signed (negsuc n) e = record { sfits = ltb-true n (2 ^ 31) e }
 

@@ -1,27 +1,25 @@
 -- Quotients and remainders.
-use Rattle.std.proofs.Common.{◌≡◌, ℕ, suc, ◌+◌, ◌^◌, ◌<◌, ◌≤◌, ◌==◌, Bool, true, false, List, [], ◌∷◌, ◌++◌, length, slice_set, Some, refl, ap, sym, subst, ◌∙◌, arith, append_assoc}
+use Rattle.std.proofs.Common.{◌≡◌, ℕ, ◌<◌, ◌==◌, Bool, true, false, List, [], ◌∷◌, ◌++◌, length, slice_set, Some, refl, ap, subst, ◌∙◌, arith, append_assoc}
 use Rattle.std.specs.Prelude.{if◌then◌else◌, ℤ, int_div, int_rem}
 use Rattle.std.proofs.lemmas.List.{get_or-set_other, get_or-set_same, length-set}
 use Rattle.t_base.specs.declared.basics.Var.{Var}
 use Rattle.word_ir.specs.declared.operands.Operand.{Operand}
 use Rattle.word_ir.specs.declared.words.Arith.TheVariants as kind
 use Rattle.word_ir.specs.declared.words.WordOp.TheVariants as op
-use Rattle.word_ir.specs.Word.{Word, Number, signed, unsigned, fits}
-use Rattle.word_ir.specs.Computing.{Result, Gives, Over, Bad, fitted, remainder}
-use Rattle.word_ir.specs.State.{Setting, State as WordState, keeper_of, has_room}
-use Rattle.word_ir.specs.Effects.{Effect, Binds, Turns, word_of, bind_result, op_effect}
+use Rattle.word_ir.specs.Word.{Number, signed, unsigned, fits}
+use Rattle.word_ir.specs.Computing.{Gives, Over, Bad, fitted, remainder}
+use Rattle.word_ir.specs.State.{Setting, State as WordState, keeper_of}
+use Rattle.word_ir.specs.Effects.{Binds, word_of, bind_result, op_effect}
 use Rattle.word_ir.specs.Step.{changed}
 use Rattle.word_ir.specs.Ranges.{IsInPlace}
 use Rattle.m68020_code.specs.declared.instr.Cond.TheVariants.{Vs}
 use Rattle.m68020_code.specs.declared.instr.Ea.TheVariants.{D}
 use Rattle.m68020_code.specs.declared.instr.Instr.TheVariants.{DivslL}
-use Rattle.m68020_code.specs.Table.{fits as fits_half}
 use Rattle.m68020_step.specs.declared.registers.Effect.TheVariants.{Nothing}
 use Rattle.m68020_step.specs.declared.registers.Flags.{Flags}
-use Rattle.m68020_step.specs.declared.registers.Registers.{Registers}
-use Rattle.m68020_step.specs.Arithmetic.{divide_long, divide_by}
+use Rattle.m68020_step.specs.Arithmetic.{divide_long}
 use Rattle.m68020_step.specs.ConditionCodes.{flags_of_result}
-use Rattle.m68020_step.specs.Operand.{◌>>=◌, next, with_pc, with_data, with_flags, data_at}
+use Rattle.m68020_step.specs.Operand.{next, with_pc, with_data, with_flags, data_at}
 use Rattle.m68020_step.specs.Step.{State, executed}
 use Rattle.m68020_asm.specs.declared.item.Item.{Item}
 use Rattle.m68020_asm.specs.declared.item.Item.TheVariants.{Plain, Branch}
@@ -30,10 +28,10 @@ use Rattle.lap_items.specs.Operands.{load_items}
 use Rattle.lap_items.specs.Arithmetic.{computing_items}
 use Rattle.lap_items.specs.Operations.{op_items}
 use Rattle.lap_runs.specs.Represents.{Represents}
-use Rattle.lap_paths.specs.Paths.{Assembly, Stands, Path, Reads, Beside, IsAt, at_pc}
+use Rattle.lap_paths.specs.Paths.{Assembly, Stands, Path, IsAt, at_pc}
 use Rattle.lap_paths.specs.Housed.{IsHoused, HasHome, IsUsable}
 use Rattle.lap_paths.proofs.Steps.{act, branch}
-use Rattle.lap_paths.proofs.Besides.{beside_represents, beside_data, beside_flags, beside_pc}
+use Rattle.lap_paths.proofs.Besides.{beside_represents, beside_data, beside_pc}
 use Rattle.lap_paths.proofs.Loads.{reads_data}
 use Rattle.lap_lines.specs.Arrives.{Behind, Opened, Arrives}
 use Rattle.lap_lines.proofs.Numbers.{same_fits}
@@ -52,7 +50,7 @@ module _ (a : Assembly) (m : Setting) (s : WordState) (housed : IsHoused m) (pla
   does_divide : (t : State) (i j at pc : ℕ) (b : Bool) → data_at t.registers 7 ≡ i → data_at t.registers 6 ≡ j → (j == 0) ≡ false → fits (quotient_of i j) ≡ b
       → executed t.storage at (with_pc t.registers pc) (DivslL (D 6) 7 6)
       ≡ (if b then next (with_flags (with_data (with_data (with_pc t.registers pc) 7 (unsigned (quotient_of i j))) 6 (unsigned (rest_of i j))) (flags_of_result t.registers.flags (unsigned (quotient_of i j)))) Nothing
-        else next (with_flags (with_pc t.registers pc) (record t.registers.flags { v = true; c = false })) Nothing)
+      else next (with_flags (with_pc t.registers pc) (record t.registers.flags { v = true; c = false })) Nothing)
   unfolding executed divide_long
   does_divide t i j at pc b first second some e =
       rw (reads_data t 6 j second pc, some, first, same_fits (quotient_of i j), e) refl
@@ -104,6 +102,7 @@ module _ (a : Assembly) (m : Setting) (s : WordState) (housed : IsHoused m) (pla
         ends v i j false e at_v first second some stands2 =
             division v i j over (put_into (D 7) (home_of m.homes to) ∷ items) items (Opened a m s over) false e at_v first second some stands2
             (λ h w pc at_w at. opened a m s housed place w over pc at_w at) (λ h w at_w seven six stands3. absurd (cc))
+
         by : (b : Bool) (u : State) (i j : ℕ) → word_of m s y ≡ Some (Number j) → Represents m a.labels s u → data_at u.registers 7 ≡ i → Stands a u (load_items m.homes y 6 ++ (last ++ put_into (D 7) (home_of m.homes to) ∷ items))
             → (j == 0) ≡ b → Arrives a m s u items 6 (bind_result m s to over (if b then Bad else fitted (quotient_of i j)))
         by true u i j word at_u first stands2 none = tt
@@ -126,6 +125,7 @@ module _ (a : Assembly) (m : Setting) (s : WordState) (housed : IsHoused m) (pla
         ends v i j false e at_v first second some stands2 =
             division v i j over (put_into (D 6) (home_of m.homes to) ∷ items) items (Opened a m s over) false e at_v first second some stands2
             (λ h w pc at_w at. opened a m s housed place w over pc at_w at) (λ h w at_w seven six stands3. absurd (cc))
+
         by : (b : Bool) (u : State) (i j : ℕ) → word_of m s y ≡ Some (Number j) → Represents m a.labels s u → data_at u.registers 7 ≡ i → Stands a u (load_items m.homes y 6 ++ (last ++ put_into (D 6) (home_of m.homes to) ∷ items))
             → (j == 0) ≡ b → Arrives a m s u items 6 (bind_result m s to over (if b then Bad else remainder (signed i) (signed j)))
         by true u i j word at_u first stands2 none = tt

@@ -1,7 +1,7 @@
 -- The stack is lowered, raised and set; bytes of the heap are taken.
-use Rattle.std.proofs.Common.{◌≡◌, ◌≢◌, ℕ, zero, suc, ◌+◌, ◌-◌, ◌*◌, ◌%◌, ◌^◌, ◌<◌, ◌≤◌, ◌==◌, ◌&&◌, nat_lt, nat_le, Bool, true, false, List, [], ◌∷◌, ◌++◌, Option, Some, None, slice_get, refl, ap, sym, subst, ◌∙◌, arith, append_assoc}
-use Rattle.std.specs.Prelude.{if◌then◌else◌, min}
-use Rattle.std.proofs.lemmas.Bool.{and_parts, ltb-true, ltb-false, leb-true, eqb-true}
+use Rattle.std.proofs.Common.{◌≡◌, ◌≢◌, ℕ, suc, ◌+◌, ◌-◌, ◌*◌, ◌%◌, ◌^◌, ◌<◌, ◌≤◌, ◌==◌, ◌&&◌, nat_lt, nat_le, true, false, List, [], ◌∷◌, ◌++◌, Some, slice_get, refl, ap, sym, subst, ◌∙◌, arith, append_assoc}
+use Rattle.std.specs.Prelude.{if◌then◌else◌}
+use Rattle.std.proofs.lemmas.Bool.{and_parts, ltb-false, leb-true, eqb-true}
 use Rattle.std.proofs.lemmas.List.{get_or-set_other, get_or-set_same}
 use Rattle.t_base.specs.declared.basics.Var.{Var}
 use Rattle.word_ir.specs.declared.operands.Operand.{Operand}
@@ -9,20 +9,19 @@ use Rattle.word_ir.specs.declared.placed.Home.{Home}
 use Rattle.word_ir.specs.declared.placed.Home.TheVariants as home
 use Rattle.word_ir.specs.declared.words.WordOp.TheVariants as op
 use Rattle.word_ir.specs.Word.{Word, Number}
-use Rattle.word_ir.specs.Storage.{HEAP_START, STACK_START, long_at as word_long}
-use Rattle.word_ir.specs.State.{Setting, State as WordState, Keeper, Own, At, held, hold, keeper_of, has_room, stack_at, stack_end, heap_end}
-use Rattle.word_ir.specs.Effects.{Effect, Takes, SetsTop, Turns, breaks, word_of, op_effect, kept_at, take_effect, push_effect, pop_effect, reset_effect, stack_room, heap_room}
-use Rattle.word_ir.specs.Step.{on, into, changed}
+use Rattle.word_ir.specs.Storage.{STACK_START}
+use Rattle.word_ir.specs.State.{Setting, State as WordState, Keeper, Own, At, held, hold, keeper_of, has_room, stack_end, heap_end}
+use Rattle.word_ir.specs.Effects.{Takes, SetsTop, Turns, breaks, word_of, op_effect, kept_at, take_effect, reset_effect, stack_room, heap_room}
+use Rattle.word_ir.specs.Step.{on, changed}
 use Rattle.word_ir.specs.Ranges.{IsInPlace}
 use Rattle.m68020_code.specs.declared.instr.Cond.TheVariants.{Cs}
-use Rattle.m68020_code.specs.declared.instr.Ea.{Ea}
 use Rattle.m68020_code.specs.declared.instr.Ea.TheVariants.{D, A, Imm}
 use Rattle.m68020_code.specs.declared.instr.Instr.{Instr}
 use Rattle.m68020_code.specs.declared.instr.Instr.TheVariants.{MoveL, MoveaL, SubL, CmpL, CmpiL, AddaL, SubaL}
 use Rattle.m68020_step.specs.declared.registers.Effect.TheVariants.{Nothing}
 use Rattle.m68020_step.specs.Arithmetic.{add_address, subtract_address}
-use Rattle.m68020_step.specs.ConditionCodes.{flags_of_difference, flags_of_comparison, holds}
-use Rattle.m68020_step.specs.Operand.{◌>>=◌, next, with_pc, with_address, data_at, address_at}
+use Rattle.m68020_step.specs.ConditionCodes.{flags_of_difference, flags_of_comparison}
+use Rattle.m68020_step.specs.Operand.{next, with_pc, with_address, data_at, address_at}
 use Rattle.m68020_step.specs.Storage.{long_at}
 use Rattle.m68020_step.specs.Step.{State, executed}
 use Rattle.m68020_step.specs.Word.{sum_of, difference_of}
@@ -31,7 +30,7 @@ use Rattle.m68020_asm.specs.declared.item.Item.TheVariants.{Plain, Branch}
 use Rattle.lap_items.specs.Homes.{home_of, put_into}
 use Rattle.lap_items.specs.Operands.{source_items, source_of, load_items}
 use Rattle.lap_items.specs.Operations.{bytes_of_words, push_items, take_items, op_items}
-use Rattle.lap_runs.specs.Represents.{real, IsKnown, HasWord, Represents}
+use Rattle.lap_runs.specs.Represents.{HasWord, Represents}
 use Rattle.lap_paths.specs.Paths.{Assembly, Stands, Path, Reads, Beside, IsAt, at_pc}
 use Rattle.lap_paths.specs.Housed.{IsHoused, HasHome, IsUsable}
 use Rattle.lap_paths.proofs.Steps.{act, arrived, branch}
@@ -213,7 +212,7 @@ module _ (a : Assembly) (m : Setting) (s : WordState) (housed : IsHoused m) (pla
   take_run : (t : State) (to : Var) (x : Operand) (bytes full : ℕ) (items : List Item) (Q : State → Type 0) → Represents m a.labels s t → IsUsable m x → word_of m s x ≡ Some (Number bytes) → Stands a t (take_items m.homes (home_of m.homes to) x full ++ items)
       → (nat_lt (heap_room m s) bytes ≡ true → (u : State) (pc : ℕ) → Represents m a.labels s u → IsAt a (at_pc u pc) full → Path a 0 (at_pc u pc) Q)
       → (nat_lt (heap_room m s) bytes ≡ false → (u : State) → Represents m a.labels s u → data_at u.registers 6 ≡ bytes
-        → Stands a u (Plain (MoveL (A 4) (D 7)) ∷ Plain (AddaL (D 6) 4) ∷ put_into (D 7) (home_of m.homes to) ∷ items) → Path a 3 u Q) → Path a 10 t Q
+      → Stands a u (Plain (MoveL (A 4) (D 7)) ∷ Plain (AddaL (D 6) 4) ∷ put_into (D 7) (home_of m.homes to) ∷ items) → Path a 3 u Q) → Path a 10 t Q
   unfolding take_items
   take_run t to x bytes full items Q is usable word stands no_room room =
       let behind : List Item = Plain (MoveL (A 6) (D 7)) ∷ Plain (SubL (A 4) 7) ∷ Plain (CmpL (D 6) 7) ∷ Branch Cs full ∷ Plain (MoveL (A 4) (D 7)) ∷ Plain (AddaL (D 6) 4) ∷ put_into (D 7) (home_of m.homes to) ∷ [] in

@@ -1,16 +1,15 @@
 -- Arithmetic.
-use Rattle.std.proofs.Common.{◌≡◌, ℕ, suc, ◌+◌, ◌^◌, ◌<◌, ◌≤◌, ◌==◌, Bool, true, false, not, List, [], ◌∷◌, ◌++◌, Some, refl, ap, sym, subst, ◌∙◌, arith, append_assoc}
-use Rattle.std.specs.Prelude.{if◌then◌else◌, ℤ, ◌+ℤ◌, ◌-ℤ◌, ◌*ℤ◌, int_div, int_rem, bit_and, bit_or}
-use Rattle.std.proofs.lemmas.List.{get_or-set_other, get_or-set_same}
+use Rattle.std.proofs.Common.{◌≡◌, ℕ, suc, ◌^◌, ◌<◌, ◌≤◌, Bool, true, false, not, List, [], ◌∷◌, ◌++◌, Some, refl, ap, sym, subst, ◌∙◌, arith, append_assoc}
+use Rattle.std.specs.Prelude.{if◌then◌else◌, ℤ, ◌+ℤ◌, ◌-ℤ◌, ◌*ℤ◌, bit_and, bit_or}
 use Rattle.t_base.specs.declared.basics.Var.{Var}
 use Rattle.word_ir.specs.declared.operands.Operand.{Operand}
 use Rattle.word_ir.specs.declared.words.Arith.{Arith}
 use Rattle.word_ir.specs.declared.words.Arith.TheVariants as kind
 use Rattle.word_ir.specs.declared.words.WordOp.TheVariants as op
-use Rattle.word_ir.specs.Word.{Word, Number, signed, unsigned, fits}
-use Rattle.word_ir.specs.Computing.{Result, Gives, Over, Bad, fitted, computed}
+use Rattle.word_ir.specs.Word.{Number, signed, unsigned, fits}
+use Rattle.word_ir.specs.Computing.{Gives, Over, fitted, computed}
 use Rattle.word_ir.specs.State.{Setting, State as WordState, keeper_of, has_room}
-use Rattle.word_ir.specs.Effects.{Effect, Binds, Stores, Takes, SetsTop, Puts, Turns, Enters, Ends, breaks, word_of, with_number, binds, bind_result, op_effect}
+use Rattle.word_ir.specs.Effects.{Effect, Binds, Stores, Takes, SetsTop, Puts, Turns, Enters, Ends, word_of, with_number, binds, bind_result, op_effect}
 use Rattle.word_ir.specs.Step.{changed}
 use Rattle.word_ir.specs.Ranges.{IsInPlace}
 use Rattle.m68020_code.specs.declared.instr.Cond.TheVariants.{Vs}
@@ -18,13 +17,12 @@ use Rattle.m68020_code.specs.declared.instr.Ea.{Ea}
 use Rattle.m68020_code.specs.declared.instr.Ea.TheVariants.{D, A, Ind, Post, Pre, Disp, Abs, Imm}
 use Rattle.m68020_code.specs.declared.instr.Ea.TheVariants as ea
 use Rattle.m68020_code.specs.declared.instr.Instr.{Instr}
-use Rattle.m68020_code.specs.declared.instr.Instr.TheVariants.{MoveL, AddL, SubL, AndL, OrL, MulsL, DivslL}
+use Rattle.m68020_code.specs.declared.instr.Instr.TheVariants.{AddL, SubL, AndL, OrL, MulsL}
 use Rattle.m68020_code.specs.Table.{fits as fits_half}
 use Rattle.m68020_step.specs.declared.registers.Effect.TheVariants.{Nothing}
 use Rattle.m68020_step.specs.declared.registers.Flags.{Flags}
-use Rattle.m68020_step.specs.Arithmetic.{divide_long, divide_by}
 use Rattle.m68020_step.specs.ConditionCodes.{flags_of_result, flags_of_sum, flags_of_difference, flags_of_product}
-use Rattle.m68020_step.specs.Operand.{◌>>=◌, next, with_pc, with_data, with_flags, data_at}
+use Rattle.m68020_step.specs.Operand.{next, with_pc, with_data, with_flags, data_at}
 use Rattle.m68020_step.specs.Step.{State, executed}
 use Rattle.m68020_step.specs.Word.{sum_of, difference_of, product_of}
 use Rattle.m68020_asm.specs.declared.item.Item.{Item}
@@ -36,9 +34,9 @@ use Rattle.lap_items.specs.Operations.{op_items}
 use Rattle.lap_runs.specs.Represents.{Represents}
 use Rattle.lap_paths.specs.Paths.{Assembly, Stands, Path, Reads, Beside, IsAt, at_pc}
 use Rattle.lap_paths.specs.Housed.{IsHoused, HasHome, IsUsable}
-use Rattle.lap_paths.proofs.Steps.{act, branch, widen}
-use Rattle.lap_paths.proofs.Besides.{beside_represents, beside_data, beside_flags, beside_pc}
-use Rattle.lap_paths.proofs.Loads.{source_goes, load_goes, move_goes, reads_data, reads_address}
+use Rattle.lap_paths.proofs.Steps.{branch, widen}
+use Rattle.lap_paths.proofs.Besides.{beside_represents, beside_pc}
+use Rattle.lap_paths.proofs.Loads.{source_goes, load_goes, move_goes, reads_data}
 use Rattle.lap_lines.specs.Arrives.{Behind, Opened, Arrives}
 use Rattle.lap_lines.proofs.Numbers.{same_fits, sum_fits, difference_fits, product_fits}
 use Rattle.lap_lines.proofs.Arriving.{number_arrives, kept_arrives, bind_goes}
@@ -121,9 +119,11 @@ module _ (a : Assembly) (m : Setting) (s : WordState) (housed : IsHoused m) (pla
           flipped : (b : Bool) → not b ≡ true → b ≡ false
           flipped true h = absurd (cc)
           flipped false h = refl
+
           kept : (b : Bool) → not b ≡ false → b ≡ true
           kept true h = refl
           kept false h = absurd (cc)
+
       by : (b : Bool) → fits z ≡ b → Arrives a m s t items 3 (bind_result m s to over (if b then Gives (unsigned z) else Over))
       by true e = kept_arrives a m s t items 3 (keeper_of m.homes to) (λ k. Binds k (Number (unsigned z))) (λ room. run true e (Behind a m (changed s (Binds (keeper_of m.homes to) (Number (unsigned z)))) items)
           (λ h u pc at_u at. absurd (cc)) (λ h u at_u there stands2. number_bound u items to 7 v (unsigned z) has at_u there (value e) stands2 room))

@@ -1,5 +1,5 @@
 -- Laws of operations and their items.
-use Rattle.std.specs.Prelude.{◌≡◌, ℕ, ◌+◌, true, List, ◌++◌, ℤ}
+use Rattle.std.specs.Prelude.{◌≡◌, ℕ, true, List, ◌++◌, ℤ}
 use Rattle.std.specs.List.{AllByRecursion}
 use Rattle.t_base.specs.declared.basics.Var.{Var}
 use Rattle.word_ir.specs.declared.operands.Operand.{Operand}
@@ -42,6 +42,9 @@ LoadsArrive = (to : Var) (base : Operand) (offset : ℤ) → LineArrives 3 (op.L
 abbrev pub StoresArrive : Type 0
 StoresArrive = (base from : Operand) (offset : ℤ) → LineArrives 6 (op.Store base offset from)
 
+abbrev pub BytesArrive : Type 0
+BytesArrive = (to : Var) (base index : Operand) (offset : ℤ) → LineArrives 11 (op.LoadByte to base index offset)
+
 abbrev pub TakesArrive : Type 0
 TakesArrive = (to : Var) (bytes : Operand) (full : ℕ) → LineArrives 10 (op.Take to bytes full)
 
@@ -67,3 +70,7 @@ pub record SumsArrive : Type 0 where
   pub remainder : ArithArrives 9 kind.Remainder
   pub both : ArithArrives 8 kind.And
   pub either : ArithArrives 8 kind.Or
+
+-- to the left, and to the right where the count is negative
+abbrev pub ShiftsArrive : Type 0
+ShiftsArrive = (count : ℤ) → ArithArrives 14 (kind.Shift count)

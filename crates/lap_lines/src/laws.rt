@@ -1,11 +1,12 @@
 //! Laws of operations and their items, as contracts of functions that do nothing.
 
-ghost use Rattle.lap_lines.specs.Laws.{MovesArrive, LoadsArrive, StoresArrive, TakesArrive, PushesArrive, PopsArrive, ResetsArrive, SumsArrive};
+ghost use Rattle.lap_lines.specs.Laws.{MovesArrive, LoadsArrive, BytesArrive, StoresArrive, TakesArrive, PushesArrive, PopsArrive, ResetsArrive, SumsArrive, ShiftsArrive};
 
-/// The items of a move, a load and a store come to where the operation comes to.
+/// The items of a move, a load, a load of a byte and a store come to where the operation comes to.
 pub fn words_arrive()
     ensures moves { MovesArrive }
     ensures loads { LoadsArrive }
+    ensures bytes { BytesArrive }
     ensures stores { StoresArrive }
 {}
 
@@ -18,7 +19,8 @@ pub fn room_arrives()
     ensures resets { ResetsArrive }
 {}
 
-/// And so do those of arithmetic other than shifts. Where a result doesn't fit they come to the label of `over`, and nothing is bound.
+/// And so do those of arithmetic. Where a result doesn't fit they come to the label of `over`, and nothing is bound.
 pub fn sums_arrive()
-    ensures { SumsArrive }
+    ensures sums { SumsArrive }
+    ensures shifts { ShiftsArrive }
 {}

@@ -1,16 +1,14 @@
 -- What stays where one data register, A3 and the condition codes change.
-use Rattle.std.proofs.Common.{◌≡◌, ◌≢◌, ℕ, ◌+◌, ◌*◌, ◌^◌, ◌<◌, ◌≤◌, List, ◌∷◌, Option, Some, slice_get, refl, ap, sym, subst, ◌∙◌, arith}
-use Rattle.std.specs.Prelude.{slice_index}
-use Rattle.std.proofs.lemmas.List.{get_or-set_other, get_or-set_same}
+use Rattle.std.proofs.Common.{◌≡◌, ℕ, ◌+◌, ◌*◌, ◌≤◌, List, refl, ap, ◌∙◌, arith}
+use Rattle.std.proofs.lemmas.List.{get_or-set_other}
 use Rattle.word_ir.specs.declared.placed.Home.{Home}
 use Rattle.word_ir.specs.declared.placed.Home.TheVariants as home
-use Rattle.word_ir.specs.Word.{Word}
-use Rattle.word_ir.specs.Storage.{static_at, STACK_START}
-use Rattle.word_ir.specs.State.{Setting, State as WordState, stack_end}
+use Rattle.word_ir.specs.Storage.{static_at}
+use Rattle.word_ir.specs.State.{Setting, State as WordState}
 use Rattle.word_ir.specs.WholePlaced.{IsHome}
 use Rattle.word_ir.specs.Ranges.{IsInPlace}
 use Rattle.m68020_step.specs.declared.registers.Flags.{Flags}
-use Rattle.m68020_step.specs.Operand.{with_pc, with_data, with_address, with_flags, data_at, address_at}
+use Rattle.m68020_step.specs.Operand.{with_pc, with_data, with_address, with_flags, address_at}
 use Rattle.m68020_step.specs.Step.{State}
 use Rattle.m68020_step.specs.Storage.{Regions, long_at}
 use Rattle.lap_items.specs.Homes.{at_home}

@@ -1,5 +1,5 @@
 -- Words of operands go into registers.
-use Rattle.std.proofs.Common.{◌≡◌, ◌≢◌, ℕ, suc, ◌+◌, ◌*◌, ◌%◌, ◌^◌, ◌<◌, ◌≤◌, nat_lt, Bool, true, false, List, [], ◌∷◌, ◌++◌, length, Option, Some, slice_get, pos, refl, ap, sym, subst, ◌∙◌, arith, append_assoc}
+use Rattle.std.proofs.Common.{◌≡◌, ℕ, suc, ◌+◌, ◌^◌, ◌<◌, nat_lt, Bool, true, false, List, [], ◌∷◌, ◌++◌, Option, Some, slice_get, pos, refl, ap, sym, subst, ◌∙◌, arith, append_assoc}
 use Rattle.std.specs.Prelude.{slice_index, if◌then◌else◌, Ok}
 use Rattle.std.proofs.lemmas.List.{get_or-set_other, get_or-set_same}
 use Rattle.std.proofs.lemmas.Option.{get_or_from_slice_get}
@@ -18,12 +18,10 @@ use Rattle.m68020_code.specs.declared.instr.Ea.TheVariants.{D, A, Disp, Abs, Imm
 use Rattle.m68020_code.specs.declared.instr.Ea.TheVariants as ea
 use Rattle.m68020_code.specs.declared.instr.Instr.TheVariants.{MoveL, MoveaL, Lea}
 use Rattle.m68020_step.specs.declared.registers.Effect.TheVariants.{Nothing}
-use Rattle.m68020_step.specs.declared.registers.Registers.{Registers}
 use Rattle.m68020_step.specs.ConditionCodes.{flags_of_result}
 use Rattle.m68020_step.specs.Moves.{move_long, move_address, load_effective_address}
-use Rattle.m68020_step.specs.Operand.{◌>>=◌, next, Fetched, with_pc, with_data, with_address, with_flags, data_at, address_at, located, address_of, index_of, read_long, long_operand, store_long}
+use Rattle.m68020_step.specs.Operand.{next, with_pc, with_data, with_address, with_flags, data_at, address_at, located, address_of, index_of, read_long, long_operand, store_long}
 use Rattle.m68020_step.specs.Step.{State, executed}
-use Rattle.m68020_step.specs.Word.{sum_of}
 use Rattle.m68020_asm.specs.declared.item.Item.{Item}
 use Rattle.m68020_asm.specs.declared.item.Item.TheVariants.{Plain, CodeAddr}
 use Rattle.lap_items.specs.Homes.{at_home, home_of}
@@ -32,7 +30,7 @@ use Rattle.lap_runs.specs.Represents.{real, HomeHas, Represents}
 use Rattle.lap_paths.specs.Paths.{Assembly, Stands, Path, Reads, Beside}
 use Rattle.lap_paths.specs.Housed.{IsHoused, IsUsable}
 use Rattle.lap_paths.proofs.Steps.{act, widen}
-use Rattle.lap_paths.proofs.Besides.{beside_data, beside_address, beside_trans, beside_none, beside_pc, home_reads, is_reached}
+use Rattle.lap_paths.proofs.Besides.{beside_data, beside_address, beside_trans, beside_none, home_reads, is_reached}
 
 -- ---- what single instructions come to at an operand that is read
 

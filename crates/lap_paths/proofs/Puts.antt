@@ -1,19 +1,19 @@
 -- Words go into homes.
-use Rattle.std.proofs.Common.{◌≡◌, ◌≢◌, ℕ, zero, suc, ◌+◌, ◌-◌, ◌*◌, ◌%◌, ◌^◌, ◌<◌, ◌≤◌, ◌==◌, inl, inr, Bool, true, false, List, ◌∷◌, length, Option, Some, None, slice_get, get_or, pos, refl, ap, sym, subst, ◌∙◌, arith}
+use Rattle.std.proofs.Common.{◌≡◌, ℕ, suc, ◌+◌, ◌*◌, ◌^◌, ◌<◌, ◌≤◌, ◌==◌, inl, inr, Bool, true, false, List, ◌∷◌, length, Some, slice_get, pos, refl, ap, sym, subst, ◌∙◌, arith}
 use Rattle.std.specs.Prelude.{if◌then◌else◌, slice_index, min}
 use Rattle.std.proofs.lemmas.Bool.{eqb-true, eqb-false}
-use Rattle.std.proofs.lemmas.Bool.Decides.{leb_tells, eqb_tells}
+use Rattle.std.proofs.lemmas.Bool.Decides.{leb_tells}
 use Rattle.std.proofs.lemmas.List.{get_or-set_other, get_or-set_same, get_or_past}
 use Rattle.std.proofs.lemmas.Option.{slice_get_within}
 use Rattle.word_ir.specs.declared.placed.Home.{Home}
 use Rattle.word_ir.specs.declared.placed.Home.TheVariants as home
 use Rattle.word_ir.specs.Word.{Word, Number, Code}
-use Rattle.word_ir.specs.Storage.{STATICS_START, STACK_START, static_at}
-use Rattle.word_ir.specs.State.{Setting, State as WordState, Keeper, At, held, kept, hold, has_room, stack_at}
+use Rattle.word_ir.specs.Storage.{static_at}
+use Rattle.word_ir.specs.State.{Setting, State as WordState, At, held, kept, hold, has_room, stack_at}
 use Rattle.word_ir.specs.WholePlaced.{farthest}
 use Rattle.word_ir.specs.Ranges.{IsInPlace}
 use Rattle.m68020_code.specs.declared.instr.Ea.{Ea}
-use Rattle.m68020_code.specs.declared.instr.Ea.TheVariants.{D, Disp, Abs}
+use Rattle.m68020_code.specs.declared.instr.Ea.TheVariants.{D, Abs}
 use Rattle.m68020_code.specs.declared.instr.Instr.TheVariants.{MoveL, MoveaL}
 use Rattle.m68020_step.specs.declared.registers.Effect.TheVariants.{Nothing}
 use Rattle.m68020_step.specs.declared.registers.Flags.{Flags}
@@ -26,11 +26,11 @@ use Rattle.m68020_step.specs.Word.{sum_of, unsigned}
 use Rattle.m68020_step.proofs.Memory.{long_written}
 use Rattle.m68020_asm.specs.declared.item.Item.{Item}
 use Rattle.m68020_asm.specs.declared.item.Item.TheVariants.{Plain}
-use Rattle.m68020_asm.specs.Items.{IsLabelAt, address, label_count, code_start}
+use Rattle.m68020_asm.specs.Items.{address}
 use Rattle.m68020_asm.proofs.LabelPlaces.{address_bound}
 use Rattle.m68020_asm.proofs.Runs.{label_address}
 use Rattle.lap_items.specs.Homes.{at_home, put_into}
-use Rattle.lap_runs.specs.Represents.{real, IsKnown, HomeHas, HasWord, Represents}
+use Rattle.lap_runs.specs.Represents.{real, IsKnown, HasWord, Represents}
 use Rattle.lap_paths.specs.Paths.{Assembly, Stands, Path, Reads}
 use Rattle.lap_paths.specs.Housed.{IsHoused}
 use Rattle.lap_paths.proofs.Steps.{act}
@@ -141,9 +141,11 @@ module _ (a : Assembly) (m : Setting) (s : WordState) (t : State) (w : Word) (ho
           → HasWord m a.labels (written t pc f (static_at p) (real a.labels w)) (home.Static q) x
       by j q x true there e has =
           let word : w ≡ x = cc in
-          let same : p ≡ q = eqb-true p q e in
-          (subst (λ o. long_at (written t pc f (static_at p) (real a.labels w)).storage (static_at o) ≡ Some (real a.labels x)) same
-          (long_written t.storage (static_at p) (real a.labels w) (real_small a m w known) writes ∙ ap (λ (y : Word). Some (real a.labels y)) word), subst (IsKnown m) word known)
+          let same : p ≡ q = eqb-true p q e in (
+            subst (λ o. long_at (written t pc f (static_at p) (real a.labels w)).storage (static_at o) ≡ Some (real a.labels x)) same
+                (long_written t.storage (static_at p) (real a.labels w) (real_small a m w known) writes ∙ ap (λ (y : Word). Some (real a.labels y)) word),
+            subst (IsKnown m) word known,
+          )
       by j q x false there e has =
           let b = is.homes j (home.Static q) x there has in
           let lt : q < length m.words.statics.items = housed.homes j (home.Static q) there in
@@ -154,9 +156,11 @@ module _ (a : Assembly) (m : Setting) (s : WordState) (t : State) (w : Word) (ho
       homes_hold j (home.A i) x there has = is.homes j (home.A i) x there has
       homes_hold j (home.Static q) x there has = by j q x (p == q) there refl has
       homes_hold j (home.Stack n) x there has =
-          let b = is.homes j (home.Stack n) x there has in
-          (long_same t.storage (static_at p) (real a.labels w) (address_at t.registers 7 + 4 * n) (real a.labels x) writes (omega arith) (omega (arith, is.top, place.top_whole))
-          (λ e. absurd (omega (arith, e, is.top, place.top_from, inside, housed.few))) b.0, b.1)
+          let b = is.homes j (home.Stack n) x there has in (
+            long_same t.storage (static_at p) (real a.labels w) (address_at t.registers 7 + 4 * n) (real a.labels x) writes (omega arith) (omega (arith, is.top, place.top_whole))
+                (λ e. absurd (omega (arith, e, is.top, place.top_from, inside, housed.few))) b.0,
+            b.1,
+          )
 
 -- ---- homes as places
 

@@ -17,16 +17,16 @@ use Rattle.m68020_step.specs.Ranges.{IsInRange}
 use Rattle.m68020_step.specs.Step.{State, executed, after as carried, with_effect, answer_of, step_of}
 use Rattle.m68020_step.proofs.RunInRange.{step_keeps_range}
 use Rattle.m68020_asm.specs.declared.item.Item.{Item}
-use Rattle.m68020_asm.specs.declared.item.Item.TheVariants.{Plain, Branch}
-use Rattle.m68020_asm.specs.Items.{address, IsLabelAt}
-use Rattle.m68020_asm.specs.Run.{instruction_of, item_step, address_in}
+use Rattle.m68020_asm.specs.declared.item.Item.TheVariants.{Branch}
+use Rattle.m68020_asm.specs.Items.{IsLabelAt}
+use Rattle.m68020_asm.specs.Run.{instruction_of, item_step}
 use Rattle.m68020_asm.specs.Widths.{displacement}
 use Rattle.m68020_asm.proofs.Runs.{item_step_at, step_alike, branch_goes}
 use Rattle.machine_services.specs.Runs.{Progress}
 use Rattle.item_runs.specs.Runs.{item_machine}
 use Rattle.lap_runs.specs.Goes.{Goes}
 use Rattle.lap_runs.proofs.Going.{none_goes, goes_then, one_goes}
-use Rattle.lap_paths.specs.Paths.{Assembly, code, place_at, Sits, Stands, IsAt, at_pc, next_of, Path}
+use Rattle.lap_paths.specs.Paths.{Assembly, code, place_at, Stands, IsAt, at_pc, next_of, Path}
 
 -- ---- ways
 
@@ -122,12 +122,16 @@ branch a n t c label items Q s taken on = by_test (holds c t.registers.flags) re
   where
     k : ℕ
     k = s.place
+
     there : (j : ℕ) × IsLabelAt a.items label j
     there = a.can.each label (a.can.branches k label c s.sits.0)
+
     goes_if : Bool → Registers
     goes_if b = if b then with_pc t.registers (place_at a there.0) else with_pc t.registers (place_at a (k + 1))
+
     does : executed t.storage (place_at a k) (with_pc t.registers (place_at a (k + 1))) (Bcc c (a.assembled.widths k) (displacement (place_at a k) (slice_index a.labels label))) ≡ next (goes_if (holds c t.registers.flags)) Nothing
     does = branch_goes a.items a.bytes a.labels a.can a.assembled t.storage (with_pc t.registers (place_at a (k + 1))) k there.0 label c s.sits.0 there.1
+
     by_test : (b : Bool) → holds c t.registers.flags ≡ b → Path a (suc n) t Q
     by_test true e =
         widen a 1 (suc n) t Q (omega arith) (omega arith)

@@ -1,8 +1,8 @@
 -- Storage of words, as addresses reach it after a word is stored.
-use Rattle.std.proofs.Common.{◌≡◌, ◌≢◌, ℕ, zero, suc, ◌+◌, ◌-◌, ◌*◌, ◌/◌, ◌%◌, ◌^◌, ◌<◌, ◌≤◌, ◌⊎◌, inl, inr, nat_lt, ◌==◌, Bool, true, false, if◌then◌else◌, List, [], ◌∷◌, ◌||◌, length, Option, Some, None, slice_get, slice_set, refl, ap, sym, subst, ◌∙◌, arith}
+use Rattle.std.proofs.Common.{◌≡◌, ◌≢◌, ℕ, zero, suc, ◌%◌, ◌^◌, ◌<◌, ◌≤◌, inl, inr, nat_lt, ◌==◌, Bool, true, false, if◌then◌else◌, List, [], ◌∷◌, ◌||◌, length, Option, Some, None, slice_get, slice_set, refl, ap, subst, ◌∙◌, arith}
 use Rattle.std.specs.List.{list_any}
 use Rattle.std.proofs.lemmas.Bool.{lt-ltb, le-ltb, ltb-true, ltb-false, eqb-true}
-use Rattle.std.proofs.lemmas.Bool.Decides.{leb_tells, eqb_tells}
+use Rattle.std.proofs.lemmas.Bool.Decides.{eqb_tells}
 use Rattle.std.proofs.lemmas.Option.{slice_get_within}
 use Rattle.word_ir.specs.declared.placed.Home.{Home}
 use Rattle.word_ir.specs.declared.placed.Home.TheVariants as home
@@ -76,6 +76,7 @@ stored_same m at x y h = by (stands m at y h)
   where
     whole : (at % 4 == 0) ≡ true
     whole = rw (is_whole m at y h) refl
+
     by : Stands m at y → long_at (with_long m at x) at ≡ Some x
     by (InStatics low high there) = rw (whole, le-ltb at STATICS_START low, lt-ltb at HEAP_START high) (get_set_same m.statics (place_from STATICS_START at) x (slice_get_within m.statics (place_from STATICS_START at) y there))
     by (InHeap low high there) =
@@ -91,6 +92,7 @@ stored_other m at other x y h ne = by (stands m at y h)
   where
     whole : at % 4 ≡ 0
     whole = is_whole m at y h
+
     by : Stands m at y → long_at (with_long m at x) other ≡ long_at m other
     by (InStatics low high there) = rw (lt-ltb at HEAP_START high)
         (pick (other % 4 == 0) (nat_lt other STATICS_START) (nat_lt other HEAP_START) (nat_lt other STACK_START) _ _ _ _ _ _

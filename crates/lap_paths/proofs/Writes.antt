@@ -1,12 +1,12 @@
 -- Long words of storage are written.
-use Rattle.std.proofs.Common.{◌≡◌, ◌≢◌, ℕ, zero, suc, ◌+◌, ◌-◌, ◌*◌, ◌%◌, ◌^◌, ◌<◌, ◌≤◌, inl, inr, nat_lt, Bool, true, false, List, ◌∷◌, Option, Some, None, slice_get, refl, ap, sym, subst, ◌∙◌, arith}
-use Rattle.std.specs.Prelude.{if◌then◌else◌, slice_index, option_map}
+use Rattle.std.proofs.Common.{◌≡◌, ◌≢◌, ℕ, suc, ◌+◌, ◌*◌, ◌%◌, ◌^◌, ◌<◌, ◌≤◌, inl, inr, Bool, true, false, List, ◌∷◌, Some, None, slice_get, refl, ap, sym, subst, ◌∙◌, arith}
+use Rattle.std.specs.Prelude.{if◌then◌else◌, option_map}
 use Rattle.std.specs.Int.{w32, from_be_bytes}
 use Rattle.std.proofs.lemmas.Bool.{le-ltb}
 use Rattle.std.proofs.lemmas.Bool.Decides.{leb_tells, eqb_tells}
 use Rattle.word_ir.specs.declared.placed.Home.{Home}
 use Rattle.word_ir.specs.declared.placed.Home.TheVariants as home
-use Rattle.word_ir.specs.Word.{Word, Number, Code}
+use Rattle.word_ir.specs.Word.{Word}
 use Rattle.word_ir.specs.Storage.{static_at, long_at as word_long, with_long as with_word}
 use Rattle.word_ir.specs.State.{Setting, State as WordState, word_at, stack_at, At, held}
 use Rattle.word_ir.specs.Ranges.{IsInPlace}
@@ -19,14 +19,13 @@ use Rattle.m68020_step.specs.declared.operand.Place.TheVariants.{Memory}
 use Rattle.m68020_step.specs.declared.storage.TheConstants.{STATICS_START, HEAP_START, STACK_START}
 use Rattle.m68020_step.specs.ConditionCodes.{flags_of_result}
 use Rattle.m68020_step.specs.Moves.{move_long}
-use Rattle.m68020_step.specs.Operand.{◌>>=◌, next, with_pc, with_flags, data_at, address_at, located, at_rest, long_operand, store_long}
-use Rattle.m68020_step.specs.Storage.{Regions, bytes_at, bytes_in, lies_in, long_at, can_write, with_long}
+use Rattle.m68020_step.specs.Operand.{next, with_pc, with_flags, located, at_rest, store_long}
+use Rattle.m68020_step.specs.Storage.{Regions, bytes_at, lies_in, long_at, can_write, with_long}
 use Rattle.m68020_step.specs.Step.{State, executed}
 use Rattle.m68020_step.proofs.Memory.{Apart, long_written, long_kept}
 use Rattle.m68020_asm.specs.declared.item.Item.{Item}
 use Rattle.m68020_asm.specs.declared.item.Item.TheVariants.{Plain}
-use Rattle.lap_items.specs.Ends.{is_taken}
-use Rattle.lap_runs.specs.Represents.{real, IsKnown, IsThere, HomeHas, HasWord, Represents}
+use Rattle.lap_runs.specs.Represents.{real, IsKnown, IsThere, HasWord, Represents}
 use Rattle.lap_paths.specs.Paths.{Assembly, Stands, Path, Reads}
 use Rattle.lap_paths.specs.Housed.{IsHoused}
 use Rattle.lap_paths.proofs.Steps.{act}

@@ -1,5 +1,5 @@
-use Rattle.lap_lines.proofs.Lines.{sums_arrive}
+use Rattle.lap_lines.proofs.Lines.{sums_arrive, shifts_arrive}
 use Rattle.lap_lines.proofs.laws.sums_arrive.Goals as goal
 
 pub returns : goal.returns
-returns c = sums_arrive
+returns c = record { sums = sums_arrive; shifts = shifts_arrive }

@@ -1,0 +1,4 @@
+//! Where the items of each block stand.
+#![tactic(auto)]
+
+pub mod laws;
