@@ -7,4 +7,4 @@ mod lives;
 mod number_set;
 mod operands;
 
-pub use crate::lives::live;
+pub use crate::lives::{Free, free_variables, live};
