@@ -18,7 +18,7 @@ use Rattle.cps_ir.proofs.Closed.{same_number}
 use Rattle.cps_ir.proofs.Apart.{unless}
 use Rattle.cps_ir.proofs.Inside.{in_without, from_without}
 use Rattle.cps_known.specs.declared.liveness.Live.{Live}
-use Rattle.cps_known.specs.LiveVariables.{continuations, is_live, AreLive, IsLive}
+use Rattle.cps_known.specs.LiveVariables.{continuations, AreLive, IsLive}
 use Rattle.cps_walk.specs.Walks.{places_of, part_places, places_under}
 use Rattle.cps_walk.proofs.Walked.{parts_placed}
 use Rattle.cps_live.specs.declared.lives.Free.{Free}

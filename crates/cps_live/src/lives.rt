@@ -27,7 +27,12 @@ fn no_lists(alloc: Global, count: usize) -> Result<Vec<Vars>, Memory>
 
 /// The variables that are free in the term at each place but for some, each once. Terms are gone through backwards, so that the parts of a
 /// term come before it, and what a term uses and its parts' lists are gone through once.
-fn lists_but(alloc: Global, cps: &Cps, places: Vec<u32>, but: &NumberSet) -> Result<Vec<Vars>, Memory>
+fn lists_but(
+    alloc: Global,
+    cps: &Cps,
+    places: Vec<u32>,
+    but: &NumberSet,
+) -> Result<Vec<Vars>, Memory>
     requires whole { IsWhole cps.now }
     requires walked { places.items ≡ walked cps.now }
     ensures { IfOk result (λ lists. AreLists cps.now but.now lists.items) }

@@ -1,8 +1,8 @@
 -- What each block sees at its start, and that what it uses is seen.
-use Rattle.std.specs.Prelude.{Contains, AllPairs, count_by, slice_index_or}
+use Rattle.std.specs.Prelude.{Contains, count_by, slice_index_or}
 use Rattle.std.specs.List.{AllByRecursion, flat_map}
 use Rattle.std.specs.Option.{option_map_or}
-use Rattle.std.proofs.Common.{◌≡◌, ◌≢◌, ℕ, zero, suc, ◌+◌, ◌<◌, ◌≤◌, ◌==◌, Bool, true, false, ◌||◌, cond, if◌then◌else◌, List, [], ◌∷◌, ◌++◌, length, All, Option, Some, None, slice_get, refl, sym, ap, subst, ◌∙◌, arith, ◌⊎◌, inl, inr, ⊎_elim}
+use Rattle.std.proofs.Common.{◌≡◌, ℕ, zero, suc, ◌+◌, ◌<◌, ◌≤◌, ◌==◌, Bool, true, false, ◌||◌, cond, if◌then◌else◌, List, [], ◌∷◌, ◌++◌, length, Option, Some, None, slice_get, refl, sym, ap, subst, ◌∙◌, arith, ◌⊎◌, inl, inr, ⊎_elim}
 use Rattle.std.proofs.lemmas.Bool.{true≢false, false≢true, eqb-true}
 use Rattle.std.proofs.lemmas.Option.{slice_get_within}
 use Rattle.std.proofs.lemmas.List.Elements.{All-from_recursion}
@@ -12,7 +12,6 @@ use Rattle.t_prim.specs.SharedParts.{IsWholeShared}
 use Rattle.cps_ir.specs.declared.args.Arg.{Arg}
 use Rattle.cps_ir.specs.declared.terms.Cps.{Cps}
 use Rattle.cps_ir.specs.Reaches.{is_in}
-use Rattle.cps_ir.specs.Whole.{IsWhole}
 use Rattle.cps_ir.proofs.ProperLists.{some_same, none_some, each_of_all, each_more, each_append, each_joined}
 use Rattle.cps_ir.proofs.Closed.{same_number}
 use Rattle.cps_ir.proofs.Apart.{any_or, any_left, any_right}
@@ -26,13 +25,13 @@ use Rattle.frame_ir.specs.declared.forms.Frames.{Frames}
 use Rattle.frame_ir.specs.Parts.{op_uses, end_uses, op_binds, block_binds, block_uses, arms_of, targets_of, all_arms, all_targets, names_ahead}
 use Rattle.frame_ir.specs.Whole.{AreSeen, AreScoped, seen_behind, HasScopes}
 use Rattle.layout_relation.specs.Links.{IsIn, first, later}
-use Rattle.layout_relation.specs.Contexts.{Context, Purpose, CodeOf, MethodOf, Begins, ArmOf, PassesOn, Resumes}
+use Rattle.layout_relation.specs.Contexts.{Purpose, CodeOf, MethodOf, Begins, ArmOf, PassesOn, Resumes}
 use Rattle.layout_relation.specs.Laid.{Sketch, IsFor, numbers, IsLaidOut}
 use Rattle.layout_relation.proofs.Lists.{some_at, in_right, in_left, in_either, in_cases, in_none}
-use Rattle.layout_relation.proofs.Arriving.{BlockAt, block_at}
-use Rattle.layout_laws.specs.Wholeness.{AreArms, BindsOnce, IsOwed, LaidOutHasScopes, LaidOutIsWhole}
+use Rattle.layout_relation.proofs.Arriving.{block_at}
+use Rattle.layout_laws.specs.Wholeness.{AreArms, BindsOnce, LaidOutHasScopes, LaidOutIsWhole}
 use Rattle.layout_laws.proofs.Shapely.{places, shapes, blocks}
-use Rattle.layout_laws.proofs.Seen.{Sees, HeldIn, behind, behind_keeps, numbers_join, ArmSees, ArmsSee, Scoped, StartsSeen, block_seen}
+use Rattle.layout_laws.proofs.Seen.{Sees, HeldIn, behind, numbers_join, ArmSees, ArmsSee, Scoped, StartsSeen, block_seen}
 
 -- ---- the block that ends in an If with an arm
 
@@ -132,6 +131,7 @@ found (c ∷ bs) i (suc k) m b e h le = by_test (is_in (arms_of c.last) m) refl 
   where
     j : times m (targets_of c.last ++ targets_in bs) ≡ times m (targets_of c.last) + times m (targets_in bs)
     j = times_join m (targets_of c.last) (targets_in bs)
+
     by_test : (t : Bool) → is_in (arms_of c.last) m ≡ t → (times m (targets_in bs) ≤ 1 → parent_from (suc i) bs m ≡ Some (record { at = suc i + k; block = b }))
         → (if t then Some (record { at = i; block = c }) else parent_from (suc i) bs m) ≡ Some (record { at = i + suc k; block = b })
     by_test true t go =

@@ -1,6 +1,6 @@
 -- What is seen in the blocks of frames that lay out a program: each variable that is used was bound before.
 use Rattle.std.specs.List.{AllByRecursion, flat_map}
-use Rattle.std.proofs.Common.{◌≡◌, ℕ, zero, suc, List, [], ◌∷◌, ◌++◌, length, map, slice_get, Some, refl, sym, ap, subst, ◌∙◌, ◌⊎◌, inl, inr, ⊎_elim, true, false}
+use Rattle.std.proofs.Common.{◌≡◌, ℕ, List, [], ◌∷◌, ◌++◌, refl, sym, ap, subst, ◌∙◌, ⊎_elim, true, false}
 use Rattle.std.proofs.lemmas.List.{append-nil}
 use Rattle.t_base.specs.declared.basics.Var.{Var}
 use Rattle.cps_ir.specs.declared.args.Arg.{Arg}
@@ -16,9 +16,9 @@ use Rattle.frame_ir.specs.declared.forms.FrameEnd.{FrameEnd}
 use Rattle.frame_ir.specs.declared.forms.FrameEnd.TheVariants as Last
 use Rattle.frame_ir.specs.declared.forms.Block.{Block}
 use Rattle.frame_ir.specs.Parts.{arg_vars, op_uses, end_uses, op_binds, names_ahead}
-use Rattle.layout_relation.specs.Links.{IsIn, first, later, Zipped, zip_none, zip_one}
-use Rattle.layout_relation.specs.Contexts.{Catching, Exits, Context, paired, Purpose, CodeOf, MethodOf, Begins, ArmOf, PassesOn, Resumes}
-use Rattle.layout_relation.specs.Laid.{Sketch, IsFor, numbers, variables, AreHeld, labelled, Fetches, fetches_none, fetches_one, MakesClosure, SameArg, same_const, same_var, same_global, same_builtin, same_op, Prepares, prepares_none, prepares_same, prepares_closure, Labels, labels_none, labels_one, Gives, gives_out, gives_join, gives_jump, gives_here, gives_unused, GoesOn, goes_here, goes_to, Lays, lays, LaysTerm, lays_tail_call, lays_call, lays_prim, lays_if, lays_labels, lays_join, lays_give, lays_global_get, lays_global_init, lays_global_set, lays_cell, lays_cell_get, lays_cell_set, lays_object, lays_tail_catch, lays_catch, lays_tail_uncatch, lays_uncatch, lays_halt, BlockFits}
+use Rattle.layout_relation.specs.Links.{IsIn, first, later, zip_none, zip_one}
+use Rattle.layout_relation.specs.Contexts.{Context, paired, Purpose, CodeOf, MethodOf, Begins, ArmOf, PassesOn, Resumes}
+use Rattle.layout_relation.specs.Laid.{Sketch, IsFor, numbers, variables, AreHeld, labelled, Fetches, fetches_none, fetches_one, SameArg, same_const, same_var, same_global, same_builtin, same_op, Prepares, prepares_none, prepares_same, prepares_closure, Labels, labels_none, labels_one, Gives, gives_out, gives_join, gives_jump, gives_here, gives_unused, GoesOn, goes_here, goes_to, Lays, lays, LaysTerm, lays_tail_call, lays_call, lays_prim, lays_if, lays_labels, lays_join, lays_give, lays_global_get, lays_global_init, lays_global_set, lays_cell, lays_cell_get, lays_cell_set, lays_object, lays_tail_catch, lays_catch, lays_tail_uncatch, lays_uncatch, lays_halt, BlockFits}
 use Rattle.layout_relation.proofs.Lists.{in_right, in_left, in_either, in_cases, in_none}
 use Rattle.layout_relation.proofs.Arriving.{in_numbers}
 
@@ -118,11 +118,10 @@ module _ (cps : Cps) (w : Sketch) where
   prepared : (vars : List (ℕ × ℕ)) (args : List Arg) (ms : List FrameOp) (bs : List Arg) (s : List ℕ) → Prepares cps w vars args ms bs → HeldIn vars s → AllByRecursion (ArgSeen (behind ms s)) bs
   prepared vars args ms bs s prepares_none h = tt
   prepared vars args ms bs s (prepares_same a b as_ ns cs same rest) h = (arg_kept ns s b (same_seen vars s a b h same), prepared vars as_ ns cs s rest h)
-  prepared vars args ms bs s (prepares_closure l to code kept as_ ns cs made u rest) h =
-      (
-        (behind_keeps ns (to.0 ∷ s) to.0 (first to.0 s), tt),
-        prepared vars as_ ns cs (to.0 ∷ s) rest (held_more vars s (to.0 ∷ s) (λ y i. later y to.0 s i) h),
-      )
+  prepared vars args ms bs s (prepares_closure l to code kept as_ ns cs made u rest) h = (
+    (behind_keeps ns (to.0 ∷ s) to.0 (first to.0 s), tt),
+    prepared vars as_ ns cs (to.0 ∷ s) rest (held_more vars s (to.0 ∷ s) (λ y i. later y to.0 s i) h),
+  )
 
   closures : (vars : List (ℕ × ℕ)) (args : List Arg) (ms : List FrameOp) (bs : List Arg) (s : List ℕ) (ops : List FrameOp) (last : FrameEnd) → Prepares cps w vars args ms bs → HeldIn vars s → Scoped ops last (behind ms s) → Scoped (ms ++ ops) last s
   closures vars args ms bs s ops last prepares_none h rest = rest
@@ -150,8 +149,7 @@ module _ (cps : Cps) (w : Sketch) where
   labels vars xs lams ms tos s ops last labels_none h rest = rest
   labels vars xs lams ms tos s ops last (labels_one x l to code kept ys ls ns ts made more) h rest =
       let op = Op.Closure to code kept At.Heap in
-      let names = numbers (names_ahead (ns ++ ops)) in
-      (
+      let names = numbers (names_ahead (ns ++ ops)) in (
         sees_join ((to.0 ∷ names) ++ s) kept []
             (sees_more (to.0 ∷ numbers ts ++ s) ((to.0 ∷ names) ++ s) (numbers kept)
             (λ y i. ⊎_elim (λ a. in_left y (to.0 ∷ names) s (ahead vars xs lams ms tos ops (labels_one x l to code kept ys ls ns ts made more) y a)) (λ b. in_right y (to.0 ∷ names) s b) (in_either y (to.0 ∷ numbers ts) s i))
@@ -190,7 +188,7 @@ module _ (cps : Cps) (w : Sketch) where
       let t = numbers (op_binds (get y slot)) ++ s in
       let seen : IsIn y.0 t = subst (λ bs. IsIn y.0 (numbers bs ++ s)) (sym (binds y slot)) (first y.0 s) in
       let r = fetched get self binds uses apart kept ((x, y.0) ∷ vs) as_ ms t more (in_right self (numbers (op_binds (get y slot))) s i)
-          (held_with vs t x y.0 (held_more vs s t (λ z j. in_right z (numbers (op_binds (get y slot))) s j) h) seen) in
+      (held_with vs t x y.0 (held_more vs s t (λ z j. in_right z (numbers (op_binds (get y slot))) s j) h) seen) in
       record { held = r.held; scoped = λ rest last q. step (get y slot) (ms ++ rest) last s (uses y slot s i) (r.scoped rest last q) }
 
   -- ---- terms

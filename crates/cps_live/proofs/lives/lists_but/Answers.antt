@@ -1,6 +1,5 @@
-use Rattle.std.proofs.Common.{◌≡◌, ◌∙◌, ◌<◌, length, slice_get, Some, refl, ap, subst, arith, rules}
+use Rattle.std.proofs.Common.{◌≡◌, ◌<◌, length, slice_get, Some, refl, subst, arith, rules}
 use Rattle.std.proofs.lemmas.Option.{slice_get_read}
-use Rattle.cps_ir.specs.Reaches.{is_in}
 use Rattle.cps_live.specs.Gathered.{AreGathered}
 use Rattle.cps_live.proofs.LiveLemmas.{sets_out, next_there, goes_on, all_listed}
 use Rattle.cps_live.proofs.lives.lists_but.Goals as goal
