@@ -208,7 +208,7 @@ goes_on cps ks waiting rest lists new t term xs formed h e is there g put = reco
 
 -- ---- the whole
 
-contains_in : (xs : List ℕ) (x k : ℕ) → k < length xs → slice_index_or xs k x ≡ x → is_in xs x ≡ true
+pub contains_in : (xs : List ℕ) (x k : ℕ) → k < length xs → slice_index_or xs k x ≡ x → is_in xs x ≡ true
 contains_in [] x k lt e = absurd (omega (arith, lt))
 contains_in (y ∷ xs) x zero lt e = ap (λ b. b || is_in xs x) (same_number y x e)
 contains_in (y ∷ xs) x (suc k) lt e = by_test (y == x) (contains_in xs x k (omega (arith, lt)) e)

@@ -3,6 +3,7 @@
 
 mod continuations;
 mod gathering;
+pub mod laws;
 mod lives;
 mod number_set;
 mod operands;

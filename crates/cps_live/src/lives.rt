@@ -51,8 +51,7 @@ fn lists_but(
 }
 
 /// The variables that are free in the term at each place, each once; the `k` of a Join or of a procedure is none of them. It is linear in
-/// the sum of the lengths of the lists, as `free_variables` has them, and in terms, arguments and the greatest variable. The only error is the want
-/// of memory.
+/// the sum of the lengths of the lists, and in terms, arguments, parameters and the greatest variable. The only error is the want of memory.
 pub fn live(alloc: Global, cps: &Cps) -> Result<Live, Memory>
     requires { IsWhole cps.now }
     ensures { IfOk result (IsLive cps.now) }
@@ -71,7 +70,7 @@ pub struct Free {
 }
 
 /// The variables that are free in the term at each place, each once: what is live there, and each `k` of a Join or a procedure. It is linear
-/// in the sum of the lengths of the lists, and in terms, arguments and the greatest variable. The only error is the want of memory.
+/// in the sum of the lengths of the lists, and in terms, arguments, parameters and the greatest variable. The only error is the want of memory.
 pub fn free_variables(alloc: Global, cps: &Cps) -> Result<Free, Memory>
     requires { IsWhole cps.now }
     ensures { IfOk result (IsFree cps.now) }
