@@ -4,3 +4,4 @@ pub mod Behind
 pub mod Unfolds
 pub mod LiveLemmas
 pub mod Fewness
+pub mod NeedLemmas

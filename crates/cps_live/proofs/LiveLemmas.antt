@@ -105,12 +105,12 @@ pub record IsLiveBehind (cps : Cps) (ks waiting : List ℕ) (lists : List (List 
   pub reached : (t : ℕ) → is_in done t ≡ true → IsSomeAnd (slice_get lists t) (AreLeft cps ks t)
   pub unreached : (t : ℕ) → t < length cps.terms.items → is_in done t ≡ false → slice_get lists t ≡ Some []
 
-empty_at : (n t : ℕ) → t < n → slice_get (replicate {A = List Var} n []) t ≡ Some []
+pub empty_at : (n t : ℕ) → t < n → slice_get (replicate {A = List Var} n []) t ≡ Some []
 empty_at zero t lt = absurd (omega (arith, lt))
 empty_at (suc n) zero lt = refl
 empty_at (suc n) (suc t) lt = empty_at n t (omega (arith, lt))
 
-so_many : (n : ℕ) → length (replicate {A = List Var} n []) ≡ n
+pub so_many : (n : ℕ) → length (replicate {A = List Var} n []) ≡ n
 so_many zero = refl
 so_many (suc n) = ap suc (so_many n)
 
@@ -123,19 +123,19 @@ sets_out cps ks waiting lists e q = record {
   unreached = λ t lt i. ap (λ ls. slice_get ls t) q ∙ empty_at (length cps.terms.items) t lt;
 }
 
-put_here : {X : Type 0} (xs : List X) (i : ℕ) (x : X) → i < length xs → slice_get (set xs i x) i ≡ Some x
+pub put_here : {X : Type 0} (xs : List X) (i : ℕ) (x : X) → i < length xs → slice_get (set xs i x) i ≡ Some x
 put_here [] i x lt = absurd (omega (arith, lt))
 put_here (y ∷ xs) zero x lt = refl
 put_here (y ∷ xs) (suc i) x lt = put_here xs i x (omega (arith, lt))
 
-put_apart : {X : Type 0} (xs : List X) (i j : ℕ) (x : X) → (i ≡ j → ⊥) → slice_get (set xs i x) j ≡ slice_get xs j
+pub put_apart : {X : Type 0} (xs : List X) (i j : ℕ) (x : X) → (i ≡ j → ⊥) → slice_get (set xs i x) j ≡ slice_get xs j
 put_apart [] i j x ne = refl
 put_apart (y ∷ xs) zero zero x ne = absurd (ne refl)
 put_apart (y ∷ xs) zero (suc j) x ne = refl
 put_apart (y ∷ xs) (suc i) zero x ne = refl
 put_apart (y ∷ xs) (suc i) (suc j) x ne = put_apart xs i j x (λ e. ne (ap suc e))
 
-put_length : {X : Type 0} (xs : List X) (i : ℕ) (x : X) → length (set xs i x) ≡ length xs
+pub put_length : {X : Type 0} (xs : List X) (i : ℕ) (x : X) → length (set xs i x) ≡ length xs
 put_length [] i x = refl
 put_length (y ∷ xs) zero x = refl
 put_length (y ∷ xs) (suc i) x = ap suc (put_length xs i x)
@@ -217,7 +217,7 @@ contains_in (y ∷ xs) x (suc k) lt e = by_test (y == x) (contains_in xs x k (om
     by_test true r = refl
     by_test false r = r
 
-in_contains : (xs : List ℕ) (x : ℕ) → is_in xs x ≡ true → Contains xs x
+pub in_contains : (xs : List ℕ) (x : ℕ) → is_in xs x ≡ true → Contains xs x
 in_contains [] x e = absurd (false≢true e)
 in_contains (y ∷ xs) x e = by_test (y == x) refl e (λ r. in_contains xs x r)
   where
@@ -225,7 +225,7 @@ in_contains (y ∷ xs) x e = by_test (y == x) refl e (λ r. in_contains xs x r)
     by_test true q r go = (0, omega arith, eqb-true y x q)
     by_test false q r go = let c : Contains xs x = go r in let lt : c.0 < length xs = c.1 in (suc c.0, omega (arith, lt), c.2)
 
-some_holds : (o : Option (List Var)) → o ≡ Some [] → IsSomeAnd o (λ xs. xs ≡ [])
+pub some_holds : (o : Option (List Var)) → o ≡ Some [] → IsSomeAnd o (λ xs. xs ≡ [])
 some_holds o e = subst (λ p. IsSomeAnd p (λ xs. xs ≡ [])) (sym e) refl
 
 pub all_listed : (cps : Cps) (ks waiting : List ℕ) (lists : List (List Var)) → IsLiveBehind cps ks waiting lists → waiting ≡ [] → AreLists cps ks lists

@@ -15,7 +15,7 @@ use std::alloc::Global;
 use t_base::{Memory, Vars};
 
 /// So many empty lists.
-fn no_lists(alloc: Global, count: usize) -> Result<Vec<Vars>, Memory>
+pub(crate) fn no_lists(alloc: Global, count: usize) -> Result<Vec<Vars>, Memory>
     ensures { IfOk result (λ lists. lists.items ≡ replicate count []) }
 {
     let mut lists = Vec::new(alloc);
