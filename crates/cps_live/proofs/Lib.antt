@@ -3,3 +3,5 @@ pub mod Joined
 pub mod Behind
 pub mod Unfolds
 pub mod LiveLemmas
+pub mod Fewness
+pub mod NeedLemmas

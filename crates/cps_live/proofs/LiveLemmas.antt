@@ -18,9 +18,11 @@ use Rattle.cps_ir.proofs.Closed.{same_number}
 use Rattle.cps_ir.proofs.Apart.{unless}
 use Rattle.cps_ir.proofs.Inside.{in_without, from_without}
 use Rattle.cps_known.specs.declared.liveness.Live.{Live}
-use Rattle.cps_known.specs.LiveVariables.{continuations, is_live, AreLive, IsLive}
+use Rattle.cps_known.specs.LiveVariables.{continuations, AreLive, IsLive}
 use Rattle.cps_walk.specs.Walks.{places_of, part_places, places_under}
 use Rattle.cps_walk.proofs.Walked.{parts_placed}
+use Rattle.cps_live.specs.declared.lives.Free.{Free}
+use Rattle.cps_live.specs.FreeVariables.{AreLeft, AreLists, AreFree, IsFree}
 use Rattle.cps_live.specs.Gathered.{numbers, list_at, seen_in, wanted_by, AreGathered}
 use Rattle.cps_live.proofs.MarkLemmas.{and_none}
 use Rattle.cps_live.proofs.Behind.{AreBehind, behind_right, walk_is_behind}
@@ -63,33 +65,32 @@ and_all false = refl
 
 -- ---- a term
 
--- a list has what is live at a place
-abbrev pub ListIsLive : Cps → List (List Var) → ℕ → Type 0
-ListIsLive cps lists t = (x : ℕ) → is_in (list_at lists t) x ≡ is_live cps t x
+-- a list has what is free at a place but for these
+abbrev pub ListIsLive : Cps → List ℕ → List (List Var) → ℕ → Type 0
+ListIsLive cps ks lists t = (x : ℕ) → is_in (list_at lists t) x ≡ (is_in (free_at cps t) x && not (is_in ks x))
 
 -- where the parts' lists are right, so is what is gathered
-pub gathered_is_live : (cps : Cps) (ks : List ℕ) (lists : List (List Var)) (t : ℕ) (term : Term) (xs : List Var) → ((m : ℕ) → is_in ks m ≡ is_in (continuations cps) m)
-    → free_at cps t ≡ used_by term ++ flat_map (λ p. without (binds_of p) (free_at cps p.at)) (parts_of cps [] term)
-    → AllByRecursion (λ p. ListIsLive cps lists p.at) (parts_of cps [] term) → AreGathered cps ks lists term xs → AreLive cps t xs
-gathered_is_live cps ks lists t term xs k free parts g = record {
+pub gathered_is_live : (cps : Cps) (ks : List ℕ) (lists : List (List Var)) (t : ℕ) (term : Term) (xs : List Var) → free_at cps t ≡ used_by term ++ flat_map (λ p. without (binds_of p) (free_at cps p.at)) (parts_of cps [] term)
+    → AllByRecursion (λ p. ListIsLive cps ks lists p.at) (parts_of cps [] term) → AreGathered cps ks lists term xs → AreLeft cps ks t xs
+gathered_is_live cps ks lists t term xs free parts g = record {
   once = g.once;
-  exact = λ x. g.exact x ∙ ap (λ b. is_in (wanted_by cps lists term) x && not b) (k x) ∙ by_test x (is_in (continuations cps) x) refl ∙ ap (λ fs. is_in fs x && not (is_in (continuations cps) x)) (sym free);
+  exact = λ x. g.exact x ∙ by_test x (is_in ks x) refl ∙ ap (λ fs. is_in fs x && not (is_in ks x)) (sym free);
 }
   where
     frees : Part → List ℕ
     frees = λ (p : Part). without (binds_of p) (free_at cps p.at)
 
-    by_test : (x : ℕ) (b : Bool) → is_in (continuations cps) x ≡ b
-        → (is_in (wanted_by cps lists term) x && not (is_in (continuations cps) x)) ≡ (is_in (used_by term ++ flat_map frees (parts_of cps [] term)) x && not (is_in (continuations cps) x))
+    by_test : (x : ℕ) (b : Bool) → is_in ks x ≡ b
+        → (is_in (wanted_by cps lists term) x && not (is_in ks x)) ≡ (is_in (used_by term ++ flat_map frees (parts_of cps [] term)) x && not (is_in ks x))
     by_test x true e =
         ap (λ b. is_in (wanted_by cps lists term) x && not b) e ∙ and_none (is_in (wanted_by cps lists term) x) ∙ sym (and_none (is_in (used_by term ++ flat_map frees (parts_of cps [] term)) x))
         ∙ ap (λ b. is_in (used_by term ++ flat_map frees (parts_of cps [] term)) x && not b) (sym e)
     by_test x false e =
-        ap (λ b. b && not (is_in (continuations cps) x))
+        ap (λ b. b && not (is_in ks x))
         (list_any-append (λ y. y == x) (used_by term) (flat_map (seen_in lists) (parts_of cps [] term))
         ∙ ap (λ b. is_in (used_by term) x || b)
         (flat_in (seen_in lists) frees x (parts_of cps [] term)
-        (each_more (λ p. ListIsLive cps lists p.at) (λ p. is_in (seen_in lists p) x ≡ is_in (frees p) x) (parts_of cps [] term)
+        (each_more (λ p. ListIsLive cps ks lists p.at) (λ p. is_in (seen_in lists p) x ≡ is_in (frees p) x) (parts_of cps [] term)
         (λ p h. in_without_is (binds_of p) (list_at lists p.at) x ∙ ap (λ b. b && not (is_in (binds_of p) x)) (h x ∙ ap (λ b. is_in (free_at cps p.at) x && not b) e ∙ and_all (is_in (free_at cps p.at) x))
         ∙ sym (in_without_is (binds_of p) (free_at cps p.at) x)) parts))
         ∙ sym (list_any-append (λ y. y == x) (used_by term) (flat_map frees (parts_of cps [] term))))
@@ -97,24 +98,24 @@ gathered_is_live cps ks lists t term xs k free parts g = record {
 -- ---- the terms behind a place
 
 -- the terms at the places that don't wait have their lists, the others have none
-pub record IsLiveBehind (cps : Cps) (waiting : List ℕ) (lists : List (List Var)) : Type 0 where
+pub record IsLiveBehind (cps : Cps) (ks waiting : List ℕ) (lists : List (List Var)) : Type 0 where
   pub done : List ℕ
   pub all : walked cps ≡ waiting ++ done
   pub counted : length lists ≡ length cps.terms.items
-  pub reached : (t : ℕ) → is_in done t ≡ true → IsSomeAnd (slice_get lists t) (AreLive cps t)
+  pub reached : (t : ℕ) → is_in done t ≡ true → IsSomeAnd (slice_get lists t) (AreLeft cps ks t)
   pub unreached : (t : ℕ) → t < length cps.terms.items → is_in done t ≡ false → slice_get lists t ≡ Some []
 
-empty_at : (n t : ℕ) → t < n → slice_get (replicate {A = List Var} n []) t ≡ Some []
+pub empty_at : (n t : ℕ) → t < n → slice_get (replicate {A = List Var} n []) t ≡ Some []
 empty_at zero t lt = absurd (omega (arith, lt))
 empty_at (suc n) zero lt = refl
 empty_at (suc n) (suc t) lt = empty_at n t (omega (arith, lt))
 
-so_many : (n : ℕ) → length (replicate {A = List Var} n []) ≡ n
+pub so_many : (n : ℕ) → length (replicate {A = List Var} n []) ≡ n
 so_many zero = refl
 so_many (suc n) = ap suc (so_many n)
 
-pub sets_out : (cps : Cps) (waiting : List ℕ) (lists : List (List Var)) → waiting ≡ walked cps → lists ≡ replicate (length cps.terms.items) [] → IsLiveBehind cps waiting lists
-sets_out cps waiting lists e q = record {
+pub sets_out : (cps : Cps) (ks waiting : List ℕ) (lists : List (List Var)) → waiting ≡ walked cps → lists ≡ replicate (length cps.terms.items) [] → IsLiveBehind cps ks waiting lists
+sets_out cps ks waiting lists e q = record {
   done = [];
   all = sym e ∙ sym (append-nil waiting);
   counted = ap length q ∙ so_many (length cps.terms.items);
@@ -122,28 +123,28 @@ sets_out cps waiting lists e q = record {
   unreached = λ t lt i. ap (λ ls. slice_get ls t) q ∙ empty_at (length cps.terms.items) t lt;
 }
 
-put_here : {X : Type 0} (xs : List X) (i : ℕ) (x : X) → i < length xs → slice_get (set xs i x) i ≡ Some x
+pub put_here : {X : Type 0} (xs : List X) (i : ℕ) (x : X) → i < length xs → slice_get (set xs i x) i ≡ Some x
 put_here [] i x lt = absurd (omega (arith, lt))
 put_here (y ∷ xs) zero x lt = refl
 put_here (y ∷ xs) (suc i) x lt = put_here xs i x (omega (arith, lt))
 
-put_apart : {X : Type 0} (xs : List X) (i j : ℕ) (x : X) → (i ≡ j → ⊥) → slice_get (set xs i x) j ≡ slice_get xs j
+pub put_apart : {X : Type 0} (xs : List X) (i j : ℕ) (x : X) → (i ≡ j → ⊥) → slice_get (set xs i x) j ≡ slice_get xs j
 put_apart [] i j x ne = refl
 put_apart (y ∷ xs) zero zero x ne = absurd (ne refl)
 put_apart (y ∷ xs) zero (suc j) x ne = refl
 put_apart (y ∷ xs) (suc i) zero x ne = refl
 put_apart (y ∷ xs) (suc i) (suc j) x ne = put_apart xs i j x (λ e. ne (ap suc e))
 
-put_length : {X : Type 0} (xs : List X) (i : ℕ) (x : X) → length (set xs i x) ≡ length xs
+pub put_length : {X : Type 0} (xs : List X) (i : ℕ) (x : X) → length (set xs i x) ≡ length xs
 put_length [] i x = refl
 put_length (y ∷ xs) zero x = refl
 put_length (y ∷ xs) (suc i) x = ap suc (put_length xs i x)
 
 -- a list that is right has what is live
-list_is_live : (cps : Cps) (lists : List (List Var)) (t : ℕ) → IsSomeAnd (slice_get lists t) (AreLive cps t) → ListIsLive cps lists t
-list_is_live cps lists t h x = at_option (slice_get lists t) h
+list_is_live : (cps : Cps) (ks : List ℕ) (lists : List (List Var)) (t : ℕ) → IsSomeAnd (slice_get lists t) (AreLeft cps ks t) → ListIsLive cps ks lists t
+list_is_live cps ks lists t h x = at_option (slice_get lists t) h
   where
-    at_option : (o : Option (List Var)) → IsSomeAnd o (AreLive cps t) → is_in (option_map_or numbers o []) x ≡ is_live cps t x
+    at_option : (o : Option (List Var)) → IsSomeAnd o (AreLeft cps ks t) → is_in (option_map_or numbers o []) x ≡ (is_in (free_at cps t) x && not (is_in ks x))
     at_option None h = absurd h
     at_option (Some xs) h = h.exact x
 
@@ -155,18 +156,18 @@ regrouped : (cps : Cps) (waiting rest done : List ℕ) (t : ℕ) → walked cps 
 regrouped cps waiting rest done t e q = e ∙ ap (λ ws. ws ++ done) q ∙ append_assoc rest (t ∷ []) done
 
 -- the next term is there
-pub next_there : (cps : Cps) (waiting rest : List ℕ) (lists : List (List Var)) (t : ℕ) → IsFormed cps → IsLiveBehind cps waiting lists → waiting ≡ rest ++ t ∷ [] → t < length cps.terms.items
-next_there cps waiting rest lists t formed h e =
+pub next_there : (cps : Cps) (ks waiting rest : List ℕ) (lists : List (List Var)) (t : ℕ) → IsFormed cps → IsLiveBehind cps ks waiting lists → waiting ≡ rest ++ t ∷ [] → t < length cps.terms.items
+next_there cps ks waiting rest lists t formed h e =
     let free = (each_right (IsFreeBy cps) rest (t ∷ h.done) (subst (AllByRecursion (IsFreeBy cps)) (regrouped cps waiting rest h.done t h.all e) (walked_free cps formed))).0 in
     slice_get_within cps.terms.items t free.term free.is
 
-pub goes_on : (cps : Cps) (ks waiting rest : List ℕ) (lists new : List (List Var)) (t : ℕ) (term : Term) (xs : List Var) → IsFormed cps → IsLiveBehind cps waiting lists → waiting ≡ rest ++ t ∷ []
-    → ((m : ℕ) → is_in ks m ≡ is_in (continuations cps) m) → slice_get cps.terms.items t ≡ Some term → t < length cps.terms.items → AreGathered cps ks lists term xs → new ≡ set lists t xs → IsLiveBehind cps rest new
-goes_on cps ks waiting rest lists new t term xs formed h e k is there g put = record {
+pub goes_on : (cps : Cps) (ks waiting rest : List ℕ) (lists new : List (List Var)) (t : ℕ) (term : Term) (xs : List Var) → IsFormed cps → IsLiveBehind cps ks waiting lists → waiting ≡ rest ++ t ∷ []
+    → slice_get cps.terms.items t ≡ Some term → t < length cps.terms.items → AreGathered cps ks lists term xs → new ≡ set lists t xs → IsLiveBehind cps ks rest new
+goes_on cps ks waiting rest lists new t term xs formed h e is there g put = record {
   done = t ∷ h.done;
   all = all;
   counted = ap length put ∙ put_length lists t xs ∙ h.counted;
-  reached = λ r i. subst (λ ls. IsSomeAnd (slice_get ls r) (AreLive cps r)) (sym put) (by_test r (t == r) refl i);
+  reached = λ r i. subst (λ ls. IsSomeAnd (slice_get ls r) (AreLeft cps ks r)) (sym put) (by_test r (t == r) refl i);
   unreached = λ r lt i. ap (λ ls. slice_get ls r) put ∙ elsewhere r lt (t == r) refl i;
 }
   where
@@ -185,21 +186,21 @@ goes_on cps ks waiting rest lists new t term xs formed h e k is there g put = re
     under : places_under cps t ≡ places_of (parts_of cps [] term)
     under = ap (λ o. option_map_or (part_places cps) o []) is ∙ sym (parts_placed cps term)
 
-    parts : AllByRecursion (λ p. ListIsLive cps lists p.at) (parts_of cps [] term)
+    parts : AllByRecursion (λ p. ListIsLive cps ks lists p.at) (parts_of cps [] term)
     parts =
-        each_more (λ p. is_in h.done p.at ≡ true) (λ p. ListIsLive cps lists p.at) (parts_of cps [] term) (λ p i. list_is_live cps lists p.at (h.reached p.at i))
+        each_more (λ p. is_in h.done p.at ≡ true) (λ p. ListIsLive cps ks lists p.at) (parts_of cps [] term) (λ p i. list_is_live cps ks lists p.at (h.reached p.at i))
         (each_unplaced (λ p. is_in h.done p ≡ true) (parts_of cps [] term) (subst (AllByRecursion (λ p. is_in h.done p ≡ true)) under behind.0))
 
-    here : AreLive cps t xs
+    here : AreLeft cps ks t xs
     here =
-        gathered_is_live cps ks lists t term xs k
+        gathered_is_live cps ks lists t term xs
         (subst (λ r. free_at cps t ≡ used_by r ++ flat_map (λ p. without (binds_of p) (free_at cps p.at)) (parts_of cps [] r)) same free.free) parts g
 
-    by_test : (r : ℕ) (b : Bool) → (t == r) ≡ b → (b || is_in h.done r) ≡ true → IsSomeAnd (slice_get (set lists t xs) r) (AreLive cps r)
+    by_test : (r : ℕ) (b : Bool) → (t == r) ≡ b → (b || is_in h.done r) ≡ true → IsSomeAnd (slice_get (set lists t xs) r) (AreLeft cps ks r)
     by_test r true q i =
-        subst (λ s. IsSomeAnd (slice_get (set lists t xs) s) (AreLive cps s)) (eqb-true t r q)
-        (subst (λ o. IsSomeAnd o (AreLive cps t)) (sym (put_here lists t xs (omega (arith, there, h.counted)))) here)
-    by_test r false q i = subst (λ o. IsSomeAnd o (AreLive cps r)) (sym (put_apart lists t r xs (λ s. true≢false (sym (eq-eqb t r s) ∙ q)))) (h.reached r i)
+        subst (λ s. IsSomeAnd (slice_get (set lists t xs) s) (AreLeft cps ks s)) (eqb-true t r q)
+        (subst (λ o. IsSomeAnd o (AreLeft cps ks t)) (sym (put_here lists t xs (omega (arith, there, h.counted)))) here)
+    by_test r false q i = subst (λ o. IsSomeAnd o (AreLeft cps ks r)) (sym (put_apart lists t r xs (λ s. true≢false (sym (eq-eqb t r s) ∙ q)))) (h.reached r i)
 
     elsewhere : (r : ℕ) → r < length cps.terms.items → (b : Bool) → (t == r) ≡ b → (b || is_in h.done r) ≡ false → slice_get (set lists t xs) r ≡ Some []
     elsewhere r lt true q i = absurd (true≢false i)
@@ -207,7 +208,7 @@ goes_on cps ks waiting rest lists new t term xs formed h e k is there g put = re
 
 -- ---- the whole
 
-contains_in : (xs : List ℕ) (x k : ℕ) → k < length xs → slice_index_or xs k x ≡ x → is_in xs x ≡ true
+pub contains_in : (xs : List ℕ) (x k : ℕ) → k < length xs → slice_index_or xs k x ≡ x → is_in xs x ≡ true
 contains_in [] x k lt e = absurd (omega (arith, lt))
 contains_in (y ∷ xs) x zero lt e = ap (λ b. b || is_in xs x) (same_number y x e)
 contains_in (y ∷ xs) x (suc k) lt e = by_test (y == x) (contains_in xs x k (omega (arith, lt)) e)
@@ -216,7 +217,7 @@ contains_in (y ∷ xs) x (suc k) lt e = by_test (y == x) (contains_in xs x k (om
     by_test true r = refl
     by_test false r = r
 
-in_contains : (xs : List ℕ) (x : ℕ) → is_in xs x ≡ true → Contains xs x
+pub in_contains : (xs : List ℕ) (x : ℕ) → is_in xs x ≡ true → Contains xs x
 in_contains [] x e = absurd (false≢true e)
 in_contains (y ∷ xs) x e = by_test (y == x) refl e (λ r. in_contains xs x r)
   where
@@ -224,14 +225,34 @@ in_contains (y ∷ xs) x e = by_test (y == x) refl e (λ r. in_contains xs x r)
     by_test true q r go = (0, omega arith, eqb-true y x q)
     by_test false q r go = let c : Contains xs x = go r in let lt : c.0 < length xs = c.1 in (suc c.0, omega (arith, lt), c.2)
 
-some_holds : (o : Option (List Var)) → o ≡ Some [] → IsSomeAnd o (λ xs. xs ≡ [])
+pub some_holds : (o : Option (List Var)) → o ≡ Some [] → IsSomeAnd o (λ xs. xs ≡ [])
 some_holds o e = subst (λ p. IsSomeAnd p (λ xs. xs ≡ [])) (sym e) refl
 
-pub all_live : (cps : Cps) (waiting : List ℕ) (live : Live) → IsLiveBehind cps waiting live.at.items → waiting ≡ [] → IsLive cps live
-all_live cps waiting live h e =
+pub all_listed : (cps : Cps) (ks waiting : List ℕ) (lists : List (List Var)) → IsLiveBehind cps ks waiting lists → waiting ≡ [] → AreLists cps ks lists
+all_listed cps ks waiting lists h e =
     let all : walked cps ≡ h.done = h.all ∙ ap (λ ws. ws ++ h.done) e in
     record {
       counted = h.counted;
       reached = λ t c. h.reached t (subst (λ ts. is_in ts t ≡ true) all (contains_in (walked cps) t c.0 c.1 c.2));
-      unreached = λ t lt no. some_holds (slice_get live.at.items t) (h.unreached t lt (unless (is_in h.done t) (λ i. no (in_contains (walked cps) t (subst (λ ts. is_in ts t ≡ true) (sym all) i)))));
+      unreached = λ t lt no. some_holds (slice_get lists t) (h.unreached t lt (unless (is_in h.done t) (λ i. no (in_contains (walked cps) t (subst (λ ts. is_in ts t ≡ true) (sym all) i)))));
     }
+
+list_more : (P Q : List Var → Type 0) → ((xs : List Var) → P xs → Q xs) → (o : Option (List Var)) → IsSomeAnd o P → IsSomeAnd o Q
+list_more P Q f None h = absurd h
+list_more P Q f (Some xs) h = f xs h
+
+-- but for each k
+pub all_live : (cps : Cps) (ks : List ℕ) (live : Live) → ((m : ℕ) → is_in ks m ≡ is_in (continuations cps) m) → AreLists cps ks live.at.items → IsLive cps live
+all_live cps ks live k h = record {
+  counted = h.counted;
+  reached = λ t c. list_more (AreLeft cps ks t) (AreLive cps t) (λ xs g. record { once = g.once; exact = λ x. g.exact x ∙ ap (λ b. is_in (free_at cps t) x && not b) (k x) }) (slice_get live.at.items t) (h.reached t c);
+  unreached = h.unreached;
+}
+
+-- but for nothing
+pub all_free : (cps : Cps) (none : List ℕ) (free : Free) → none ≡ [] → AreLists cps none free.at.items → IsFree cps free
+all_free cps none free e h = record {
+  counted = h.counted;
+  reached = λ t c. list_more (AreLeft cps none t) (AreFree cps t) (λ xs g. record { once = g.once; exact = λ x. g.exact x ∙ ap (λ ns. is_in (free_at cps t) x && not (is_in ns x)) e ∙ and_all (is_in (free_at cps t) x) }) (slice_get free.at.items t) (h.reached t c);
+  unreached = h.unreached;
+}

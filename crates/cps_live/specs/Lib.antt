@@ -1,1 +1,4 @@
 pub mod Gathered
+pub mod FreeVariables
+pub mod LiveLaws
+pub mod Needs

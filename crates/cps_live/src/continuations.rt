@@ -1,7 +1,7 @@
 // The k of each Join and of each procedure.
 ghost use Rattle.std.specs.Prelude.{◌≡◌, ℕ, ◌<◌, ◌≤◌, ◌++◌, [], ◌∷◌, length, map, filter_map, slice_get, All, OnOk, IfOk};
 ghost use Rattle.std.specs.List.{flat_map};
-ghost use Rattle.cps_ir.specs.Parts.{first_lams, lambdas_of, root_lams, walked};
+ghost use Rattle.cps_ir.specs.Parts.{first_lams, lambdas_of, reached_terms, root_lams, walked};
 ghost use Rattle.cps_known.specs.LiveVariables.{join_k, continuations};
 ghost use Rattle.cps_live.specs.Gathered.{lambda_ks};
 
@@ -115,5 +115,16 @@ pub(crate) fn continuations(
     push_join_ks(cps, places, &mut ks)?;
     push_root_ks(cps, first, &mut ks)?;
     push_inner_ks(alloc, cps, first, places, &mut ks)?;
+    Ok(ks)
+}
+
+/// The k of the Joins that are reached, by the places of the terms that are.
+pub(crate) fn join_ks(alloc: Global, cps: &Cps, places: &[u32]) -> Result<Vec<u32>, Memory>
+    requires walked { places.now ≡ walked cps.now }
+    requires there { All (λ t. t < length cps.now.terms.items) places.now }
+    ensures { IfOk result (λ ks. ks.items ≡ flat_map join_k (reached_terms cps.now)) }
+{
+    let mut ks = Vec::new(alloc);
+    push_join_ks(cps, places, &mut ks)?;
     Ok(ks)
 }

@@ -1,1 +1,3 @@
 pub mod Shapely
+pub mod Seen
+pub mod Scopes

@@ -2,7 +2,7 @@
 use Rattle.std.specs.Prelude.{IsSomeAnd, count_by}
 use Rattle.std.specs.List.{AllByRecursion, flat_map, filter}
 use Rattle.std.specs.Option.{option_map}
-use Rattle.std.proofs.Common.{◌≡◌, ◌≢◌, ℕ, zero, suc, ◌+◌, ◌≤◌, ◌<◌, ◌==◌, cond, List, [], ◌∷◌, ◌++◌, length, map, slice_get, Option, Some, None, slice_index_or, refl, sym, ap, subst, ◌∙◌, arith, All}
+use Rattle.std.proofs.Common.{◌≡◌, ◌≢◌, ℕ, zero, suc, ◌+◌, ◌≤◌, ◌<◌, ◌==◌, cond, List, [], ◌∷◌, ◌++◌, length, slice_get, Option, Some, None, slice_index_or, refl, sym, ap, subst, ◌∙◌, arith, All}
 use Rattle.std.proofs.lemmas.Option.{slice_get-get_or, slice_get_within}
 use Rattle.std.proofs.lemmas.List.Elements.{All-from_recursion}
 use Rattle.std.proofs.lemmas.List.Sums.{length-filter}
@@ -10,11 +10,9 @@ use Rattle.t_base.specs.declared.basics.Var.{Var}
 use Rattle.t_base.specs.declared.shared_parts.GlobalKind.{GlobalKind}
 use Rattle.t_base.specs.declared.shared_parts.GlobalKind.TheVariants as Kind
 use Rattle.t_base.specs.declared.shared_parts.Global1.{Global1}
-use Rattle.t_base.specs.declared.shared_parts.Shared.{Shared}
-use Rattle.t_prim.specs.SharedParts.{IsConst, IsWholeShared}
+use Rattle.t_prim.specs.SharedParts.{IsConst}
 use Rattle.t_prim.specs.Table.{arity_of}
 use Rattle.cps_ir.specs.declared.args.Arg.{Arg}
-use Rattle.cps_ir.specs.declared.args.Arg.TheVariants as Argument
 use Rattle.cps_ir.specs.declared.terms.Cont.{Cont}
 use Rattle.cps_ir.specs.declared.terms.Term.{Term}
 use Rattle.cps_ir.specs.declared.terms.Cps.{Cps}
@@ -28,16 +26,15 @@ use Rattle.frame_ir.specs.declared.forms.FrameOp.TheVariants as Op
 use Rattle.frame_ir.specs.declared.forms.FrameEnd.{FrameEnd}
 use Rattle.frame_ir.specs.declared.forms.FrameEnd.TheVariants as Last
 use Rattle.frame_ir.specs.declared.forms.Block.{Block}
-use Rattle.frame_ir.specs.declared.forms.Template.{Template}
 use Rattle.frame_ir.specs.declared.forms.Frames.{Frames}
 use Rattle.frame_ir.specs.Arguments.{is_proc as is_proc_kind, proc_count, default_count}
 use Rattle.frame_ir.specs.Parts.{op_args, end_args, backs_of, codes_of, arg_codes, arms_of, targets_of, block_args, all_arms, all_targets, all_backs, closure_codes}
 use Rattle.frame_ir.specs.Whole.{IsBlock, IsArg, OpNamesAreThere, BlockNamesAreThere, IsShapedOp, IsShapedEnd, HasParams, IsCodeCount, HasPlaces, HasShapes, HasBlocks, most_operands}
 use Rattle.layout_relation.specs.Links.{Zipped}
 use Rattle.layout_relation.specs.Contexts.{Context, Start, Return, Purpose, CodeOf, MethodOf, Begins, ArmOf, PassesOn, Resumes}
-use Rattle.layout_relation.specs.Laid.{Sketch, IsFor, numbers, variables, Fetches, fetches_none, fetches_one, MakesClosure, SameArg, same_const, same_var, same_global, same_builtin, same_op, Prepares, prepares_none, prepares_same, prepares_closure, Labels, labels_none, labels_one, Gives, gives_out, gives_join, gives_jump, gives_here, gives_unused, GoesOn, goes_here, goes_to, Lays, lays, LaysTerm, lays_tail_call, lays_call, lays_prim, lays_if, lays_labels, lays_join, lays_give, lays_global_get, lays_global_init, lays_global_set, lays_cell, lays_cell_get, lays_cell_set, lays_object, lays_tail_catch, lays_catch, lays_tail_uncatch, lays_uncatch, lays_halt, BlockFits, IsLaidOut}
+use Rattle.layout_relation.specs.Laid.{Sketch, IsFor, variables, Fetches, fetches_none, fetches_one, MakesClosure, SameArg, same_const, same_var, same_global, same_builtin, same_op, Prepares, prepares_none, prepares_same, prepares_closure, Labels, labels_none, labels_one, Gives, gives_out, gives_join, gives_jump, gives_here, gives_unused, GoesOn, goes_here, goes_to, Lays, lays, LaysTerm, lays_tail_call, lays_call, lays_prim, lays_if, lays_labels, lays_join, lays_give, lays_global_get, lays_global_init, lays_global_set, lays_cell, lays_cell_get, lays_cell_set, lays_object, lays_tail_catch, lays_catch, lays_tail_uncatch, lays_uncatch, lays_halt, BlockFits, IsLaidOut}
 use Rattle.layout_relation.proofs.Lists.{zipped_length, some_at}
-use Rattle.layout_relation.proofs.Arriving.{variables_count, BlockAt, block_at}
+use Rattle.layout_relation.proofs.Arriving.{variables_count, block_at}
 use Rattle.layout_laws.specs.Wholeness.{AreTemplates, AreOwnArms, LaidOutHasPlaces, LaidOutHasShapes, LaidOutHasBlocks}
 
 -- ---- what holds of each argument, operation and end

@@ -1,7 +1,7 @@
 //! Laws of frames that lay out a program in continuation-passing style (`specs/Wholeness.antt`).
 #![tactic(auto)]
 
-ghost use Rattle.layout_laws.specs.Wholeness.{LaidOutHasPlaces, LaidOutHasShapes, LaidOutHasBlocks};
+ghost use Rattle.layout_laws.specs.Wholeness.{LaidOutHasPlaces, LaidOutHasShapes, LaidOutHasBlocks, LaidOutHasScopes, LaidOutIsWhole};
 
 /// What frames name that lay out a whole program is there.
 pub fn laid_out_has_places()
@@ -17,4 +17,14 @@ pub fn laid_out_has_shapes()
 /// In frames that lay out a whole program each block has the parameters of what it is for.
 pub fn laid_out_has_blocks()
     ensures { LaidOutHasBlocks }
+{}
+
+/// In frames that lay out a program each variable that is used was bound before, on each way to its use.
+pub fn laid_out_has_scopes()
+    ensures { LaidOutHasScopes }
+{}
+
+/// Frames that lay out a whole program are whole, where what is owed beside the relation holds.
+pub fn laid_out_is_whole()
+    ensures { LaidOutIsWhole }
 {}
