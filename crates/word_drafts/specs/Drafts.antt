@@ -5,11 +5,10 @@ use Rattle.word_ir.specs.declared.operands.Operand.{Operand}
 use Rattle.word_ir.specs.declared.words.Test.{Test}
 use Rattle.word_ir.specs.declared.words.WordOp.{WordOp}
 use Rattle.word_ir.specs.declared.words.WordEnd.{WordEnd}
-use Rattle.word_ir.specs.declared.words.WordEnd.TheVariants as last
 use Rattle.word_ir.specs.declared.words.WordBlock.{WordBlock}
 use Rattle.word_ir.specs.declared.words.Words.{Words}
 use Rattle.word_ir.specs.Lines.{Op, line_at}
-use Rattle.word_trees.specs.Trees.{Tree, Do, Or, Ask, Trying, tried, Spells}
+use Rattle.word_trees.specs.Trees.{Tree, Ask, Spells}
 use Rattle.word_drafts.specs.declared.drafts.Draft.{Draft}
 
 -- a block that is begun has its number from the first ones, or stands behind those
@@ -58,14 +57,31 @@ pub record Ends (end : WordEnd) (old new : Draft) : Type 0 where
   pub heads : new.heads ≡ old.heads
   pub begun : new.begun ≡ old.begun
 
--- A test in front of what will be written, where another block has a tree for the other answer.
-pub record WritesTest (front : Tree → Tree → Tree) (other : ℕ) (old new : Draft) : Type 0 where
+-- A finished block is added behind all; the one under way stays under way.
+pub record Adds (written : List WordOp) (end : WordEnd) (place : ℕ) (old new : Draft) : Type 0 where
+  pub block : WordBlock
+  pub has : block.ops.items ≡ written
+  pub last : block.last ≡ end
+  pub is : place ≡ length old.blocks.items
+  pub blocks : new.blocks.items ≡ old.blocks.items ++ block ∷ []
+  pub number : new.number ≡ old.number
+  pub ops : new.ops.items ≡ old.ops.items
+  pub heads : new.heads ≡ old.heads
+  pub begun : new.begun ≡ old.begun
+
+-- A tree is written into blocks of its own, and what is under way stays so.
+pub record WritesApart (tree : Tree) (place : ℕ) (old new : Draft) : Type 0 where
   pub proper : IsProper new
+  pub extends : (words : Words) → Extends words new → Extends words old
+  pub spelled : (words : Words) → Extends words new → Spells words place 0 tree
+  pub same : (words : Words) (rest : Tree) → SpellsNext words new rest → SpellsNext words old rest
+
+-- What is written is in front of what will be, and of a tree that stands in another block.
+pub record WritesBeside (front : Tree → Tree → Tree) (other : ℕ) (old new : Draft) : Type 0 where
+  pub proper : IsProper old → IsProper new
   pub extends : (words : Words) → Extends words new → Extends words old
   pub spells : (words : Words) (tree rest : Tree) → Extends words new → Spells words other 0 tree → SpellsNext words new rest → SpellsNext words old (front tree rest)
 
-abbrev pub WritesTurned : Test → Operand → Operand → Tree → Tree → Tree
-WritesTurned kind a b other rest = Ask kind a b other rest
-
-abbrev pub WritesTry : Trying → Tree → Tree → Tree
-WritesTry trying exit rest = Or trying exit rest
+-- the other tree where a test doesn't hold
+abbrev pub unless_true : Test → Operand → Operand → Tree → Tree → Tree
+unless_true kind a b other rest = Ask kind a b rest other
