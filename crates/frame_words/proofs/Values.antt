@@ -105,7 +105,7 @@ some_through : (o : Option ℕ) (f g : ℕ → ℕ) → is_some o ≡ true → i
 some_through (Some a) f g e = refl
 some_through None f g e = absurd (cc)
 
-packed_room : (bytes : List ℕ) → length bytes ≤ 4 * length (packed bytes)
+pub packed_room : (bytes : List ℕ) → length bytes ≤ 4 * length (packed bytes)
 packed_room [] = omega arith
 packed_room (a ∷ []) = omega arith
 packed_room (a ∷ b ∷ []) = omega arith

@@ -1,7 +1,7 @@
 -- What words of values tell, and what is read by way of them.
 use Rattle.std.specs.Prelude.{◌≡◌, ℕ, ◌+◌, ◌-◌, ◌*◌, ◌/◌, ◌%◌, ◌≤◌, ◌==◌, List, ◌++◌, replicate, slice_get, Some, negsuc}
 use Rattle.std.specs.List.{AllByRecursion, flat_map}
-use Rattle.t_prim.specs.Values.{Val, Text, SymbolV, StringV, PairV, VectorV}
+use Rattle.t_prim.specs.Values.{Val, Text, SymbolV, StringV, PairV, VectorV, text_of}
 use Rattle.t_prim.specs.Identity.{is_same}
 use Rattle.word_ir.specs.Word.{Word, Number, moved}
 use Rattle.word_ir.specs.Storage.{Sizes, Regions, STATICS_START, HEAP_START, long_at}
@@ -12,7 +12,7 @@ use Rattle.frame_words.specs.ValueWords.{same_thing, heap_place, word_for, tag_o
 use Rattle.frame_words.specs.Contents.{Escapes, thing_contents, fixed_contents}
 use Rattle.frame_words.specs.Holding.{IsMade, HoldsData}
 use Rattle.frame_words.specs.Growing.{WordsStay, Adds}
-use Rattle.frame_words.specs.Origins.{IsRead, IsPairRead, IsVectorRead, IsTextRead, IsSymbolRead}
+use Rattle.frame_words.specs.Origins.{IsRead, IsPairRead, IsVectorRead, IsTextRead, IsTextHeld, IsSymbolRead}
 
 -- The two low bits of a value's word tell its kind.
 abbrev pub TagsTellKinds : Type 0
@@ -49,6 +49,11 @@ abbrev pub TextsAreRead : Type 0
 TextsAreRead =
     (sizes : Sizes) (l : Layout) (e : Escapes) (s : State) (storage : Regions Word) (next : ℕ) (output : List ℕ) → HoldsData sizes l e s storage next output
     → (t : Text) (n : ℕ) → word_for l s (StringV t) ≡ Some n → IsTextRead s storage t n
+
+abbrev pub TextsAreHeld : Type 0
+TextsAreHeld =
+    (sizes : Sizes) (l : Layout) (e : Escapes) (s : State) (storage : Regions Word) (next : ℕ) (output : List ℕ) → HoldsData sizes l e s storage next output
+    → (t : Text) (n : ℕ) (bytes : List ℕ) → word_for l s (StringV t) ≡ Some n → text_of s.store t ≡ Some bytes → IsTextHeld storage bytes n
 
 abbrev pub SymbolsAreRead : Type 0
 SymbolsAreRead =

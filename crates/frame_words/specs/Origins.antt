@@ -1,9 +1,11 @@
 -- Where the words of values point.
 use Rattle.std.specs.Prelude.{◌≡◌, ℕ, ◌+◌, ◌*◌, ◌<◌, List, length, slice_get, Some, pos, negsuc}
+use Rattle.std.specs.List.{AllByRecursion}
+use Rattle.word_faces.specs.Operands.{string_of}
 use Rattle.t_prim.specs.Values.{Val, Text, StringV, PrintName, text_of}
 use Rattle.tagged_words.specs.Tags.{fixnum_word}
 use Rattle.word_ir.specs.Word.{Word, Number, moved}
-use Rattle.word_ir.specs.Storage.{Regions, STATICS_START, HEAP_START, STACK_START, long_at}
+use Rattle.word_ir.specs.Storage.{Regions, STATICS_START, HEAP_START, STACK_START, long_at, byte_at, bytes_at}
 use Rattle.frame_ir.specs.States.{State, Thing}
 use Rattle.frame_words.specs.Layouts.{Layout, Fixed, front_words, fixed_place}
 use Rattle.frame_words.specs.ValueWords.{heap_place, word_for}
@@ -51,6 +53,13 @@ pub record IsTextRead (s : State) (storage : Regions Word) (t : Text) (n : ℕ) 
   pub there : text_of s.store t ≡ Some bytes
   pub short : length bytes < 536870912
   pub length_read : IsRead storage (moved n (pos 2)) (Number (fixnum_word (pos (length bytes))))
+
+-- the bytes of a string, one by one and all at once
+pub record IsTextHeld (storage : Regions Word) (bytes : List ℕ) (n : ℕ) : Type 0 where
+  pub characters : AllByRecursion (λ byte. byte < 128) bytes
+  pub byte_read : (i byte : ℕ) → slice_get bytes i ≡ Some byte → byte_at (long_at storage) (n + i + 6) ≡ Some byte
+  pub outside : (i : ℕ) → i < length bytes → n + i + 6 < STACK_START
+  pub whole : string_of (bytes_at (long_at storage)) n ≡ Some bytes
 
 -- the print name of a symbol
 pub record IsSymbolRead (l : Layout) (s : State) (storage : Regions Word) (name n : ℕ) : Type 0 where

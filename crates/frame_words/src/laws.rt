@@ -1,6 +1,6 @@
 //! Laws of words of values, where storage holds the data of a state.
 
-ghost use Rattle.frame_words.specs.Laws.{TagsTellKinds, WordsTellValues, ThingsAreRead, FixedAreRead, HeadersAreRead, PairsAreRead, VectorsAreRead, TextsAreRead, SymbolsAreRead};
+ghost use Rattle.frame_words.specs.Laws.{TagsTellKinds, WordsTellValues, ThingsAreRead, FixedAreRead, HeadersAreRead, PairsAreRead, VectorsAreRead, TextsAreRead, TextsAreHeld, SymbolsAreRead};
 ghost use Rattle.frame_words.specs.Laws.{AddingKeepsWords, AddingKeepsData};
 
 /// The two low bits of a word tell the kind of its value, and two words are equal where their values are one thing.
@@ -15,13 +15,14 @@ pub fn things_are_read()
     ensures fixed { FixedAreRead }
 {}
 
-/// By way of a value's word its header is read, both parts of a pair, length and elements of a vector, the length of a string, and the
+/// By way of a value's word its header is read, both parts of a pair, length and elements of a vector, length and bytes of a string, and the
 /// print name of a symbol.
 pub fn values_are_read()
     ensures headers { HeadersAreRead }
     ensures pairs { PairsAreRead }
     ensures vectors { VectorsAreRead }
     ensures texts { TextsAreRead }
+    ensures bytes { TextsAreHeld }
     ensures symbols { SymbolsAreRead }
 {}
 

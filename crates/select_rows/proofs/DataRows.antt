@@ -41,10 +41,10 @@ module _ (words : Words) (sizes : Sizes) (l : Layout) (e : Escapes) (t : ℕ) (s
   keeps = keeps_same sizes l e t s c h
 
   -- the row is the other one, as it is found to be
-  by_row : (row other : Row) (least k : ℕ) (tree : Tree) (d : Core) → row ≡ other → performs words sizes l e t s c to rest other least k tree d → performs words sizes l e t s c to rest row least k tree d
+  pub by_row : (row other : Row) (least k : ℕ) (tree : Tree) (d : Core) → row ≡ other → performs words sizes l e t s c to rest other least k tree d → performs words sizes l e t s c to rest row least k tree d
   by_row row other least k tree d same p = subst (λ r. performs words sizes l e t s c to rest r least k tree d) (sym same) p
 
-  as_kind : (a : Operand) (v w : Val) (d : Core) → v ≡ w → Has l s t d a v → Has l s t d a w
+  pub as_kind : (a : Operand) (v w : Val) (d : Core) → v ≡ w → Has l s t d a v → Has l s t d a w
   as_kind a v w d same ha = subst (λ y. Has l s t d a y) same ha
 
   pub car_performs : (a : Operand) (v : Val) → Has l s t c a v → performs words sizes l e t s c to rest (rows.with_pair v s.store (λ k p. Gives p.0)) 1 5 (Rattle.select_rows.specs.Macros.pair a (Do (op.Load to a (negsuc 2)) rest)) c

@@ -5,6 +5,8 @@ pub mod Results
 pub mod NumberRows
 pub mod KindRows
 pub mod DataRows
+pub mod Strings
+pub mod Vectors
 pub mod Table
 pub mod Puts
 pub mod Pairs

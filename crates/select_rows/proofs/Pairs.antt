@@ -57,17 +57,17 @@ fill_more zero a b z le = absurd (omega (arith, le))
 fill_more (suc zero) a b z le = absurd (omega (arith, le))
 fill_more (suc (suc n)) a b z le = let m : suc (suc n) - 2 ≡ n = omega arith in rw m refl
 
-fill_two : (f : List Word) (n : ℕ) (a b z : Word) → 2 ≤ n → slice_set (slice_set (f ++ replicate n z) (length f) a) (suc (length f)) b ≡ (f ++ a ∷ b ∷ []) ++ replicate (n - 2) z
+pub fill_two : (f : List Word) (n : ℕ) (a b z : Word) → 2 ≤ n → slice_set (slice_set (f ++ replicate n z) (length f) a) (suc (length f)) b ≡ (f ++ a ∷ b ∷ []) ++ replicate (n - 2) z
 fill_two [] n a b z le = fill_more n a b z le
 fill_two (x ∷ f) n a b z le = ap (λ ws. x ∷ ws) (fill_two f n a b z le)
 
-joined_length : {X : Type 0} (content : X → List Word) (size : X → ℕ) (xs : List X) → ((x : X) → length (content x) ≡ size x) → length (flat_map content xs) ≡ total_of size xs
+pub joined_length : {X : Type 0} (content : X → List Word) (size : X → ℕ) (xs : List X) → ((x : X) → length (content x) ≡ size x) → length (flat_map content xs) ≡ total_of size xs
 joined_length content size [] sized = refl
 joined_length content size (x ∷ xs) sized = omega (arith, length-append (content x) (flat_map content xs), sized x, joined_length content size xs sized)
 
 -- ---- a pair more
 
-get_last : {X : Type 0} (xs : List X) (x : X) → slice_get (xs ++ x ∷ []) (length xs) ≡ Some x
+pub get_last : {X : Type 0} (xs : List X) (x : X) → slice_get (xs ++ x ∷ []) (length xs) ≡ Some x
 get_last [] x = refl
 get_last (y ∷ xs) x = get_last xs x
 

@@ -88,7 +88,7 @@ put_keeps sizes l e t s start d bytes h =
       stamps = h.stamps;
     }
 
-puts_and_nil : (words : Words) (sizes : Sizes) (l : Layout) (e : Escapes) (t : ℕ) (s : State) (start : Core) (to : Var) (rest : Tree) (d : Core) (number n : ℕ) (a : Operand) (bytes : List ℕ) → Keeps sizes l e t s s start d → word_in d a ≡ Some (Number n) → service_effect (words_in words sizes) (at d 0 0 0 0).state number (n ∷ []) ≡ Puts bytes
+pub puts_and_nil : (words : Words) (sizes : Sizes) (l : Layout) (e : Escapes) (t : ℕ) (s : State) (start : Core) (to : Var) (rest : Tree) (d : Core) (number n : ℕ) (a : Operand) (bytes : List ℕ) → Keeps sizes l e t s s start d → word_in d a ≡ Some (Number n) → service_effect (words_in words sizes) (at d 0 0 0 0).state number (n ∷ []) ≡ Puts bytes
     → performs words sizes l e t s start to rest (Changes (with_output s.store bytes) NilV) 1 4 (Do (op.Service number (a ∷ [])) (give_nil to rest)) d
 puts_and_nil words sizes l e t s start to rest d number n a bytes keeps held served =
     put_performs words sizes _ n bytes held served

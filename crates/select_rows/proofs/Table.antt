@@ -9,6 +9,8 @@ use Rattle.select_rows.proofs.Puts.{put_fixnum_row, put_char_row, newline_row}
 use Rattle.select_rows.proofs.Pairs.{cons_row}
 use Rattle.select_rows.proofs.Parts.{set_car_row, set_cdr_row}
 use Rattle.select_rows.proofs.Elements.{set_vref_row}
+use Rattle.select_rows.proofs.Strings.{string_element_row, put_string_row}
+use Rattle.select_rows.proofs.Vectors.{make_vector_row}
 
 pub rows_performed : (p : Builtin) → IsCodeOf p (code_of p)
 rows_performed builtin.Add = add_row
@@ -43,12 +45,12 @@ rows_performed builtin.Car = car_row
 rows_performed builtin.Cdr = cdr_row
 rows_performed builtin.SetCar = set_car_row
 rows_performed builtin.SetCdr = set_cdr_row
-rows_performed builtin.MakeVector = tt
+rows_performed builtin.MakeVector = make_vector_row
 rows_performed builtin.VectorLength = vector_length_row
 rows_performed builtin.Vref = vref_row
 rows_performed builtin.SetVref = set_vref_row
 rows_performed builtin.StringLength = string_length_row
-rows_performed builtin.StringElt = tt
+rows_performed builtin.StringElt = string_element_row
 rows_performed builtin.SymbolToString = symbol_text_row
 rows_performed builtin.CharToAscii = char_number_row
 rows_performed builtin.AsciiToChar = ascii_char_row
@@ -56,6 +58,6 @@ rows_performed builtin.CharEq = char_eq_row
 rows_performed builtin.CharLt = char_lt_row
 rows_performed builtin.PutFixnum = put_fixnum_row
 rows_performed builtin.PutChar = put_char_row
-rows_performed builtin.PutString = tt
+rows_performed builtin.PutString = put_string_row
 rows_performed builtin.Newline = newline_row
 rows_performed builtin.Error = error_row

@@ -1,4 +1,4 @@
--- The code of each builtin, made of checks and results in the order of the table of builtins. A row that isn't built yet is `later`.
+-- The code of each builtin, made of checks and results in the order of the table of builtins.
 use Rattle.std.specs.Prelude.{ℕ, ◌+◌, List, [], ◌∷◌, pos, negsuc}
 use Rattle.t_base.specs.declared.basics.Var.{Var}
 use Rattle.t_base.specs.declared.builtins.Builtin.{Builtin}
@@ -31,7 +31,6 @@ pub data Code : Type 0 where
   of_one : (cost : ℕ) (code : Operand → ℕ → Var → Tree → Tree) → Code
   of_two : (cost : ℕ) (code : Operand → Operand → ℕ → Var → Tree → Tree) → Code
   of_three : (cost : ℕ) (code : Operand → Operand → Operand → ℕ → Var → Tree → Tree) → Code
-  later : Code
 
 -- a number, or the fault where it is none
 abbrev pub compute : Arith → Operand → Operand → Var → Tree → Tree
@@ -74,9 +73,35 @@ give_nil to rest = Do (op.Move to (word NIL)) rest
 abbrev pub newline_word : ℕ
 newline_word = 2561
 
+-- the run ends for want of so many bytes of heap
+abbrev pub no_heap : Operand → Tree
+no_heap bytes = Do (op.Service 4 (bytes ∷ word 0 ∷ [])) never
+
 -- so many bytes of the heap, whose address is bound, else the run ends for want of them
 abbrev pub take : ℕ → ℕ → Tree → Tree
-take t bytes rest = Or (Take (var t) (word bytes)) (Do (op.Service 4 (word bytes ∷ word 0 ∷ [])) never) rest
+take t bytes rest = Or (Take (var t) (word bytes)) (no_heap (word bytes)) rest
+
+-- A vector of so many elements has 2 words more, rounded up to even: 4 n + 12 bytes, rounded down to a multiple of 8. Where 4 n + 12 doesn't fit a
+-- number with a sign, no heap has room for it. The elements are 0, as free words of the heap are.
+abbrev pub LARGE : ℕ
+LARGE = 2147483636
+
+abbrev pub EIGHTS : ℕ
+EIGHTS = 4294967288
+
+abbrev pub small_vector : Operand → ℕ → Var → Tree → Tree
+small_vector a t to rest =
+    make kind.Add a (word 12) (var t)
+    (make kind.And (of_var t) (word EIGHTS) (var (t + 1))
+    (Or (Take (var (t + 2)) (of_var (t + 1))) (no_heap (of_var (t + 1)))
+    (Do (op.Store (of_var (t + 2)) (pos 0) (word 0x11)) (Do (op.Store (of_var (t + 2)) (pos 4) a) (make kind.Add (of_var (t + 2)) (word 2) to rest)))))
+
+-- of the three greatest fixnums
+abbrev pub large_vector : Operand → Tree
+large_vector a = Ask test.Eq a (word 2147483644) (no_heap (word 2147483656)) (no_heap (word 2147483648))
+
+abbrev pub make_vector : Operand → ℕ → Var → Tree → Tree
+make_vector a t to rest = fixnum a (Ask test.Lt a (word 0) (fault 6) (Ask test.Below a (word LARGE) (small_vector a t to rest) (large_vector a)))
 
 abbrev pub code_of : Builtin → Code
 code_of builtin.Add = arithmetic kind.Add
@@ -111,7 +136,7 @@ code_of builtin.Car = of_one 5 (λ a t to rest. pair a (Do (op.Load to a (negsuc
 code_of builtin.Cdr = of_one 5 (λ a t to rest. pair a (Do (op.Load to a (pos 1)) rest))
 code_of builtin.SetCar = of_two 8 (λ a b t to rest. pair a (Do (op.Store a (negsuc 2) b) (Do (op.Move to b) rest)))
 code_of builtin.SetCdr = of_two 8 (λ a b t to rest. pair a (Do (op.Store a (pos 1) b) (Do (op.Move to b) rest)))
-code_of builtin.MakeVector = later
+code_of builtin.MakeVector = of_one 26 make_vector
 code_of builtin.VectorLength = of_one 10 (λ a t to rest. object a 0x11 5 t (Do (op.Load to a (pos 2)) rest))
 code_of builtin.Vref =
     of_two 21
@@ -124,7 +149,12 @@ code_of builtin.SetVref =
     object a 0x11 5 t
     (fixnum b (Do (op.Load (var (t + 1)) a (pos 2)) (index b (of_var (t + 1)) (make kind.Add a b (var (t + 2)) (Do (op.Store (of_var (t + 2)) (pos 6) v) (Do (op.Move to v) rest)))))))
 code_of builtin.StringLength = of_one 10 (λ a t to rest. object a 0x15 13 t (Do (op.Load to a (pos 2)) rest))
-code_of builtin.StringElt = later
+code_of builtin.StringElt =
+    of_two 28
+    (λ a b t to rest.
+    object a 0x15 13 t
+    (fixnum b (Do (op.Load (var (t + 1)) a (pos 2)) (index b (of_var (t + 1)) (make (kind.Shift (negsuc 1)) b (word 0) (var (t + 2))
+    (Do (op.LoadByte (var (t + 3)) a (of_var (t + 2)) (pos 6)) (make (kind.Shift (pos 8)) (of_var (t + 3)) (word 0) (var (t + 4)) (make kind.Add (of_var (t + 4)) (word 1) to rest))))))))
 code_of builtin.SymbolToString = of_one 10 (λ a t to rest. object a 0x19 16 t (Do (op.Load to a (pos 6)) rest))
 code_of builtin.CharToAscii = of_one 9 (λ a t to rest. character a t (make (kind.Shift (negsuc 5)) a (word 0) to rest))
 code_of builtin.AsciiToChar = of_one 12 (λ a t to rest. fixnum a (Ask test.Below a (word 512) (make (kind.Shift (pos 6)) a (word 0) (var t) (make kind.Add (of_var t) (word 1) to rest)) (fault 14)))
@@ -132,7 +162,7 @@ code_of builtin.CharEq = compare_chars test.Eq
 code_of builtin.CharLt = compare_chars test.Lt
 code_of builtin.PutFixnum = of_one 7 (λ a t to rest. fixnum a (Do (op.Service 2 (a ∷ [])) (give_nil to rest)))
 code_of builtin.PutChar = of_one 10 (λ a t to rest. character a t (Do (op.Service 1 (a ∷ [])) (give_nil to rest)))
-code_of builtin.PutString = later
+code_of builtin.PutString = of_one 12 (λ a t to rest. object a 0x15 13 t (Do (op.Service 5 (a ∷ [])) (give_nil to rest)))
 code_of builtin.Newline = of_none 4 (λ t to rest. Do (op.Service 1 (word newline_word ∷ [])) (give_nil to rest))
 code_of builtin.Error = of_one 6 (λ a t to rest. fixnum a (Do (op.Service 3 (word 15 ∷ a ∷ [])) never))
 
@@ -152,7 +182,6 @@ IsCodeOf p (of_two cost code) =
 IsCodeOf p (of_three cost code) =
     (words : Words) (sizes : Sizes) (l : Layout) (e : Escapes) (t : ℕ) (s : State) (c : Core) (to : Var) (rest : Tree) (a b d : Operand) (v w x : Val) → HoldsData sizes l e s c.storage c.next c.output → Has l s t c a v
     → Has l s t c b w → Has l s t c d x → Performs words sizes (Comes words sizes l e t s c to rest (row p (v ∷ w ∷ x ∷ []) s.store)) 1 cost (code a b d t to rest) c
-IsCodeOf p later = Unit {0}
 
 abbrev pub RowsArePerformed : Type 0
 RowsArePerformed = (p : Builtin) → IsCodeOf p (code_of p)

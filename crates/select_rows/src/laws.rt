@@ -12,7 +12,7 @@ pub fn operands_are_checked()
     ensures places { PlacesAreChecked }
 {}
 
-/// The code of each builtin that has any comes to what the builtin's row says of its operands: the value, with the data, the stack
+/// The code of each builtin comes to what the builtin's row says of its operands: the value, with the data, the stack
 /// and the variables of the program as they were, or the fault.
 pub fn rows_are_performed()
     ensures { RowsArePerformed }

@@ -1,3 +1,4 @@
+use Rattle.frame_words.proofs.Texts.{text_held}
 use Rattle.frame_words.proofs.Values.{header_is, pair_is, vector_is, text_is, symbol_is}
 use Rattle.frame_words.proofs.laws.values_are_read.Goals as goal
 
@@ -15,3 +16,6 @@ returns-clause-texts c = text_is
 
 pub returns-clause-symbols : goal.returns-clause-symbols
 returns-clause-symbols c = symbol_is
+
+pub returns-clause-bytes : goal.returns-clause-bytes
+returns-clause-bytes c = text_held
