@@ -36,7 +36,7 @@ use Rattle.frame_reads.specs.Codes.{global_get}
 use Rattle.frame_reads.specs.Laws.{Fails}
 
 -- no value has the word that stands for none
-not_unbound : (l : Layout) (s : State) (v : Val) (n : ℕ) → word_for l s v ≡ Some n → (n == UNBOUND) ≡ false
+pub not_unbound : (l : Layout) (s : State) (v : Val) (n : ℕ) → word_for l s v ≡ Some n → (n == UNBOUND) ≡ false
 not_unbound l s (FixV x) n is = let g = tag_is l s (FixV x) n is in ne_eqb n UNBOUND (λ f. absurd (omega (arith, g, f)))
 not_unbound l s (CharV c) n is = let w : IsCharWord c n = char_is l s c n is in ne_eqb n UNBOUND (λ f. absurd (omega (arith, w.word, f)))
 not_unbound l s NilV n is = let w : 5 ≡ n = cc in ne_eqb n UNBOUND (λ f. absurd (omega (arith, w, f)))
