@@ -1,10 +1,8 @@
 -- A closure that isn't known is entered by way of its word.
-use Rattle.std.proofs.Common.{◌≡◌, ℕ, zero, suc, ◌+◌, ◌-◌, ◌*◌, ◌%◌, ◌<◌, ◌≤◌, ◌⊎◌, inl, inr, List, [], ◌∷◌, length, map, slice_get, Option, Some, None, option_map, pos, negsuc, refl, sym, ap, ◌∙◌, subst, arith}
+use Rattle.std.proofs.Common.{◌≡◌, ℕ, ◌+◌, ◌-◌, ◌*◌, ◌%◌, ◌<◌, ◌⊎◌, inl, inr, List, [], ◌∷◌, length, map, slice_get, Some, option_map, pos, negsuc, refl, sym, ap, ◌∙◌, subst, arith}
 use Rattle.std.proofs.lemmas.Bool.{ne_eqb, eq-eqb}
 use Rattle.std.proofs.lemmas.Option.{slice_get-map}
-use Rattle.t_base.specs.declared.basics.Var.{Var}
 use Rattle.t_prim.specs.Values.{Val, ClosureV}
-use Rattle.word_ir.specs.declared.operands.Operand.{Operand}
 use Rattle.word_ir.specs.declared.operands.Operand.TheVariants as operand
 use Rattle.word_ir.specs.declared.words.WordBlock.{WordBlock}
 use Rattle.word_ir.specs.declared.words.WordEnd.TheVariants as last
@@ -21,17 +19,16 @@ use Rattle.word_trees.specs.Trees.{Tree, Close}
 use Rattle.word_trees.specs.Cores.{Core, at, word_in, stamp_in, some_stamp, binding, entering, bound_words, bound_stamps}
 use Rattle.word_trees.specs.Leads.{Performs}
 use Rattle.word_trees.proofs.Ends.{enter_enters}
-use Rattle.word_trees.proofs.Performing.{performs_more, enters_performs, here_leads, load_performs, ask_performs_true}
+use Rattle.word_trees.proofs.Performing.{enters_performs, here_leads, load_performs, ask_performs_true}
 use Rattle.frame_words.specs.Layouts.{Layout, ClosureOf}
-use Rattle.frame_words.specs.ValueWords.{val_word, word_for}
-use Rattle.frame_words.specs.Contents.{Escapes, closure_contents, thing_contents}
+use Rattle.frame_words.specs.ValueWords.{val_word}
+use Rattle.frame_words.specs.Contents.{Escapes, thing_contents}
 use Rattle.frame_words.specs.Origins.{OnHeap, InStatics, IsRead}
 use Rattle.frame_words.proofs.Reading.{fixed_is}
 use Rattle.frame_words.proofs.Values.{either, heap_word, fixed_word, header_is, tag_is}
-use Rattle.select_rows.specs.Macros.{var, of_var, word}
+use Rattle.select_rows.specs.Macros.{var, of_var}
 use Rattle.select_rows.proofs.Keeping.{may_read, newest_kept}
 use Rattle.frame_stacks.specs.Stacks.{Ways, IsLasting}
-use Rattle.frame_stacks.specs.Frames.{Holds}
 use Rattle.frame_calls.specs.Codes.{params_from, call_params, pass_on, apply_code}
 use Rattle.frame_calls.specs.Calls.{HoldsCall, Calls}
 use Rattle.frame_calls.proofs.Passing.{word_bound, stamp_bound, param_at}

@@ -1,34 +1,33 @@
 -- A call comes to a block with count, procedure and operands.
-use Rattle.std.proofs.Common.{◌≡◌, ℕ, zero, suc, ◌+◌, ◌-◌, ◌*◌, ◌<◌, ◌≤◌, true, List, [], ◌∷◌, length, map, take, drop, slice_get, Option, Some, None, is_some, refl, sym, ap, ◌∙◌, subst, arith}
-use Rattle.std.specs.List.{AllByRecursion}
+use Rattle.std.proofs.Common.{◌≡◌, ℕ, zero, suc, ◌+◌, ◌-◌, ◌*◌, ◌<◌, ◌≤◌, List, [], ◌∷◌, length, map, take, drop, slice_get, Some, is_some, refl, ap, ◌∙◌, arith}
 use Rattle.t_prim.specs.Values.{Val}
 use Rattle.word_ir.specs.declared.operands.Operand.{Operand}
 use Rattle.word_ir.specs.declared.operands.Operand.TheVariants as operand
 use Rattle.word_ir.specs.declared.words.WordBlock.{WordBlock}
 use Rattle.word_ir.specs.declared.words.WordEnd.TheVariants as last
 use Rattle.word_ir.specs.declared.words.Words.{Words}
-use Rattle.word_ir.specs.Word.{Word, Number, Code}
+use Rattle.word_ir.specs.Word.{Word, Number}
 use Rattle.word_ir.specs.Storage.{Sizes, static_at, long_at}
 use Rattle.word_ir.specs.State.{Own, kept}
 use Rattle.word_ir.specs.State as word_state
 use Rattle.word_ir.specs.Step.{words_in}
-use Rattle.word_ir.specs.Stamps.{Stamp, Stamped}
-use Rattle.frame_ir.specs.Values.{Value, Lasting, Env, value_at}
+use Rattle.word_ir.specs.Stamps.{Stamp}
+use Rattle.frame_ir.specs.Values.{Value, Lasting, Env}
 use Rattle.frame_ir.specs.States.{State}
-use Rattle.word_trees.specs.Trees.{Tree, Close}
+use Rattle.word_trees.specs.Trees.{Close}
 use Rattle.word_trees.specs.Cores.{Core, word_in, stamp_in, some_stamp, entering, bound_words, bound_stamps}
 use Rattle.word_trees.specs.Leads.{Performs}
 use Rattle.word_trees.proofs.Ends.{enter_enters}
 use Rattle.word_trees.proofs.Performing.{performs_more, enters_performs, here_leads}
 use Rattle.frame_words.specs.Layouts.{Layout, OPERANDS}
-use Rattle.frame_words.specs.ValueWords.{val_word, word_for}
+use Rattle.frame_words.specs.ValueWords.{val_word}
 use Rattle.frame_words.specs.Contents.{Escapes}
 use Rattle.frame_words.specs.Holding.{AreKnown}
 use Rattle.select_rows.specs.Macros.{word}
-use Rattle.frame_stacks.specs.Stacks.{Ways, StandsFor, IsLasting}
-use Rattle.frame_stacks.specs.Frames.{HoldsVariable, Holds}
+use Rattle.frame_stacks.specs.Stacks.{Ways, IsLasting}
+use Rattle.frame_stacks.specs.Frames.{Holds}
 use Rattle.frame_stacks.specs.Laws.{HasValue, HaveValues}
-use Rattle.frame_calls.specs.Codes.{params_from, call_params, call_code, store_operands}
+use Rattle.frame_calls.specs.Codes.{call_params, call_code}
 use Rattle.frame_calls.specs.Calls.{HoldsCall, Calls}
 use Rattle.frame_calls.proofs.Passing.{word_bound, stamp_bound}
 use Rattle.frame_calls.proofs.Statics.{with_statics_of, front_read, values_held, word_of, stores_perform}
@@ -129,16 +128,16 @@ module _ (words : Words) (sizes : Sizes) (l : Layout) (e : Escapes) (g : Ways) (
       performs_more words sizes (Calls sizes l e g t s v vs target) (9 + 3 * length args) (omega (arith, rest))
       (stores_perform words sizes l e g t s (Calls sizes l e g t s v vs target) (drop 5 args) (drop 5 vs) 0 env c 9 (Close (last.Enter (operand.Code target) (word (length args) ∷ f ∷ take 5 args))) h (rest_values c 5 args vs hs) (omega (arith, rest, few))
       (λ ws stamps held found before.
-        let hf' = values_held words sizes l e g t s c ws stamps (f ∷ []) (v ∷ []) (hf, tt) in
-        enter_call env (with_statics_of c ws stamps) target block f v args vs held hf'.0 (values_held words sizes l e g t s c ws stamps args (map Lasting vs) hs) few there params
-        (λ i y at le.
-          let m : 5 + (i - 5) ≡ i = omega (arith, le) in
-          let inside : i < length vs = Rattle.std.proofs.lemmas.Option.slice_get_within vs i y at in
-          let n = same_count c args vs hs in
-          let place : slice_get (drop 5 vs) (i - 5) ≡ Some y = get_rest 5 (i - 5) vs ∙ (ap (slice_get vs) m ∙ at) in
-          let low : OPERANDS + (i - 5) < 17 = omega (arith, inside, n, few) in
-          let z : OPERANDS + (i - 5) ≡ OPERANDS + (0 + (i - 5)) = omega arith in
-          front_read (record c.storage { statics = ws }) (OPERANDS + (i - 5)) low ∙ (ap (slice_get ws) z ∙ found (i - 5) y place))))
+      let hf' = values_held words sizes l e g t s c ws stamps (f ∷ []) (v ∷ []) (hf, tt) in
+      enter_call env (with_statics_of c ws stamps) target block f v args vs held hf'.0 (values_held words sizes l e g t s c ws stamps args (map Lasting vs) hs) few there params
+      (λ i y at le.
+      let m : 5 + (i - 5) ≡ i = omega (arith, le) in
+      let inside : i < length vs = Rattle.std.proofs.lemmas.Option.slice_get_within vs i y at in
+      let n = same_count c args vs hs in
+      let place : slice_get (drop 5 vs) (i - 5) ≡ Some y = get_rest 5 (i - 5) vs ∙ (ap (slice_get vs) m ∙ at) in
+      let low : OPERANDS + (i - 5) < 17 = omega (arith, inside, n, few) in
+      let z : OPERANDS + (i - 5) ≡ OPERANDS + (0 + (i - 5)) = omega arith in
+      front_read (record c.storage { statics = ws }) (OPERANDS + (i - 5)) low ∙ (ap (slice_get ws) z ∙ found (i - 5) y place))))
 
 pub call_performs : (words : Words) (sizes : Sizes) (l : Layout) (e : Escapes) (g : Ways) (t : ℕ) (s : State) (env : Env) (c : Core) (target : ℕ) (block : WordBlock) (f : Operand) (v : Value) (args : List Operand) (vs : List Val) → Holds sizes l e g t s env c → HasValue words sizes l g t s c f v → HaveValues words sizes l g t s c args (map Lasting vs) → length args ≤ 20 → slice_get words.blocks.items target ≡ Some block → block.params ≡ call_params t → Performs words sizes (Calls sizes l e g t s v vs target) 1 (9 + 3 * length args) (call_code target f args) c
 call_performs words sizes l e g t s env c target block f v args vs h hf hs few there params = whole_call words sizes l e g t s env c target block f v args vs h hf hs few there params

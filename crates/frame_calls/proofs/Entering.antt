@@ -1,15 +1,12 @@
 -- The entry of a code, and its block with the operands.
-use Rattle.std.proofs.Common.{◌≡◌, ℕ, zero, suc, ◌+◌, ◌-◌, ◌*◌, ◌%◌, ◌<◌, ◌≤◌, ◌==◌, ◌⊎◌, inl, inr, Bool, true, false, if◌then◌else◌, List, [], ◌∷◌, length, map, slice_get, Option, Some, None, is_some, pos, refl, sym, ap, ◌∙◌, subst, arith}
-use Rattle.std.specs.List.{AllByRecursion}
+use Rattle.std.proofs.Common.{◌≡◌, ℕ, zero, suc, ◌+◌, ◌-◌, ◌*◌, ◌<◌, ◌≤◌, ◌==◌, inl, inr, Bool, true, false, if◌then◌else◌, List, [], ◌∷◌, length, map, slice_get, Option, Some, None, is_some, pos, refl, sym, ap, ◌∙◌, subst, arith}
 use Rattle.std.proofs.lemmas.Bool.{ne_eqb, eq-eqb, eqb-true}
 use Rattle.program_runs.specs.Runs.{Faulted}
 use Rattle.t_base.specs.declared.basics.Var.{Var}
 use Rattle.t_base.specs.declared.faults.Fault.TheVariants.{WrongCount}
 use Rattle.t_prim.specs.Values.{Val}
 use Rattle.word_ir.specs.declared.operands.Operand.TheVariants as operand
-use Rattle.word_ir.specs.declared.words.Test.TheVariants as test
 use Rattle.word_ir.specs.declared.words.WordBlock.{WordBlock}
-use Rattle.word_ir.specs.declared.words.WordOp.TheVariants as op
 use Rattle.word_ir.specs.declared.words.Words.{Words}
 use Rattle.word_ir.specs.Word.{Word, Number, moved}
 use Rattle.word_ir.specs.Storage.{Sizes, static_at, long_at}
@@ -19,8 +16,8 @@ use Rattle.word_ir.specs.Stamps.{Stamp, Stamped}
 use Rattle.frame_ir.specs.Values.{Value, Lasting, Env, value_at}
 use Rattle.frame_ir.specs.States.{State}
 use Rattle.frame_ir.specs.Arguments.{bound}
-use Rattle.word_trees.specs.Trees.{Tree, Do}
-use Rattle.word_trees.specs.Cores.{Core, at, some_stamp, binding}
+use Rattle.word_trees.specs.Trees.{Tree}
+use Rattle.word_trees.specs.Cores.{Core, at, some_stamp}
 use Rattle.word_trees.specs.Leads.{Leads, Performs}
 use Rattle.word_trees.proofs.Operations.{service_ends}
 use Rattle.word_trees.proofs.Performing.{performs_more, ends, load_performs, ask_performs_true, ask_performs_false}
@@ -28,12 +25,12 @@ use Rattle.frame_words.specs.Layouts.{Layout, OPERANDS}
 use Rattle.frame_words.specs.ValueWords.{word_for, val_word, or_zero}
 use Rattle.frame_words.specs.Contents.{Escapes}
 use Rattle.frame_words.specs.Holding.{AreKnown}
-use Rattle.select_rows.specs.Macros.{var, of_var, word, fault, never}
+use Rattle.select_rows.specs.Macros.{word, fault, never}
 use Rattle.select_rows.proofs.Keeping.{may_read, get_some}
-use Rattle.frame_stacks.specs.Stacks.{Ways, StandsFor}
+use Rattle.frame_stacks.specs.Stacks.{Ways}
 use Rattle.frame_stacks.specs.Frames.{HoldsVariable, Holds}
 use Rattle.frame_stacks.specs.Codes.{jump}
-use Rattle.frame_stacks.specs.Laws.{HasValue, HaveValues, AreParameters, Begins}
+use Rattle.frame_stacks.specs.Laws.{HaveValues, AreParameters, Begins}
 use Rattle.frame_stacks.proofs.Blocks.{jump_performs}
 use Rattle.frame_reads.specs.Laws.{Fails}
 use Rattle.frame_calls.specs.Codes.{params_from, load_operands, entry_code}
@@ -146,16 +143,17 @@ module _ (words : Words) (sizes : Sizes) (l : Layout) (e : Escapes) (g : Ways) (
       → HaveValues words sizes l g (t + 30) s (with_env ws stamps) (map operand.Var (params_from start (length rest))) (map Lasting rest)
   operands_have ws stamps start [] found known le = tt
   operands_have ws stamps start (v ∷ rest) found known le =
-      let z : start ≡ start + 0 = omega arith in
-      (record {
-        word = Number (val_word l s v);
-        stamp = some_stamp (kept stamps (Own start));
-        held = ap (λ y. kept ws (Own y)) z ∙ found 0 v refl;
-        stamped = refl;
-        stands = record { number = val_word l s v; known = some_number (word_for l s v) known.0; is = refl };
-        older = omega (arith, le);
-      },
-      operands_have ws stamps (suc start) rest (λ i y at. let m : suc start + i ≡ start + suc i = omega arith in ap (λ x. kept ws (Own x)) m ∙ found (suc i) y at) known.1 (omega (arith, le)))
+      let z : start ≡ start + 0 = omega arith in (
+        record {
+          word = Number (val_word l s v);
+          stamp = some_stamp (kept stamps (Own start));
+          held = ap (λ y. kept ws (Own y)) z ∙ found 0 v refl;
+          stamped = refl;
+          stands = record { number = val_word l s v; known = some_number (word_for l s v) known.0; is = refl };
+          older = omega (arith, le);
+        },
+        operands_have ws stamps (suc start) rest (λ i y at. let m : suc start + i ≡ start + suc i = omega arith in ap (λ x. kept ws (Own x)) m ∙ found (suc i) y at) known.1 (omega (arith, le)),
+      )
 
   module _ (code : ℕ) (target : WordBlock) (there : slice_get words.blocks.items (g.begins code) ≡ Some target) (count : length target.params ≡ suc (length args)) (params : AreParameters t target.params) where
     abbrev Q : Stamped → Type 0
@@ -177,9 +175,10 @@ module _ (words : Words) (sizes : Sizes) (l : Layout) (e : Escapes) (g : Ways) (
         performs_map words sizes (Begins sizes l e g (t + 30) s (bound target.params (f ∷ map Lasting args)) code) Q 1 (2 + length args) (jump (g.begins code) (map operand.Var (params_from (t + 1) (suc (length args))))) (with_env ws stamps)
         (λ x b. record { core = b.core; holds = lower_held sizes l e g t 30 s target.params (f ∷ map Lasting args) b.core params b.holds; moves = b.moves; steps = b.steps; there = b.there })
         (performs_more words sizes (Begins sizes l e g (t + 30) s (bound target.params (f ∷ map Lasting args)) code) (2 + length args) (omega (arith, n))
-        (jump_performs words sizes l e g (t + 30) s [] (with_env ws stamps) code target (map operand.Var (params_from (t + 1) (suc (length args)))) (f ∷ map Lasting args) up
-        (record { word = h.word; stamp = h.stamp; held = o.held; stamped = o.stamped; stands = h.stands; older = omega arith },
-        operands_have ws stamps (suc (t + 1)) args (λ i v at. let m : suc (t + 1) + i ≡ t + 2 + i = omega arith in ap (λ x. kept ws (Own x)) m ∙ o.operands i v at (Rattle.std.proofs.lemmas.Option.slice_get_within args i v at)) h.known (omega (arith, few)))
+        (jump_performs words sizes l e g (t + 30) s [] (with_env ws stamps) code target (map operand.Var (params_from (t + 1) (suc (length args)))) (f ∷ map Lasting args) up (
+          record { word = h.word; stamp = h.stamp; held = o.held; stamped = o.stamped; stands = h.stands; older = omega arith },
+          operands_have ws stamps (suc (t + 1)) args (λ i v at. let m : suc (t + 1) + i ≡ t + 2 + i = omega arith in ap (λ x. kept ws (Own x)) m ∙ o.operands i v at (Rattle.std.proofs.lemmas.Option.slice_get_within args i v at)) h.known (omega (arith, few)),
+        )
         there (omega (arith, count, map_length args)) (higher_parameters t 30 target.params params)))
       where
         raised : (ws : word_state.Env Word) (stamps : word_state.Env Stamp) → Holds sizes l e g (t + 30) s [] (with_env ws stamps)

@@ -1,33 +1,29 @@
 -- Operands past the fifth are written to static words, and read there.
-use Rattle.std.proofs.Common.{◌≡◌, ℕ, zero, suc, ◌+◌, ◌-◌, ◌*◌, ◌/◌, ◌%◌, ◌^◌, ◌<◌, ◌≤◌, false, List, [], ◌∷◌, ◌++◌, length, map, slice_get, slice_set, Option, Some, None, pos, refl, sym, ap, ◌∙◌, subst, arith, length-append}
+use Rattle.std.proofs.Common.{◌≡◌, ℕ, zero, suc, ◌+◌, ◌-◌, ◌*◌, ◌/◌, ◌<◌, ◌≤◌, List, [], ◌∷◌, length, map, slice_get, slice_set, Some, pos, refl, sym, ap, ◌∙◌, subst, arith, length-append}
 use Rattle.std.specs.List.{flat_map}
 use Rattle.std.proofs.lemmas.Bool.{lt-ltb}
 use Rattle.std.proofs.lemmas.List.{length-set, set-append_left}
 use Rattle.word_ir.specs.declared.operands.Operand.{Operand}
 use Rattle.word_ir.specs.declared.operands.Operand.TheVariants as operand
-use Rattle.word_ir.specs.declared.words.WordOp.TheVariants as op
 use Rattle.word_ir.specs.declared.words.Words.{Words}
 use Rattle.word_ir.specs.Word.{Word, Number, moved}
 use Rattle.word_ir.specs.Storage.{Sizes, Regions, STATICS_START, STACK_START, static_at, long_at, with_long}
-use Rattle.word_ir.specs.State.{Own, kept}
-use Rattle.word_ir.specs.State as word_state
 use Rattle.word_ir.specs.Step.{words_in}
 use Rattle.word_ir.specs.Stamps.{Stamp, Stamped}
 use Rattle.t_prim.specs.Values.{Val}
 use Rattle.frame_ir.specs.Values.{Value, Lasting, Env}
 use Rattle.frame_ir.specs.States.{State}
-use Rattle.word_trees.specs.Trees.{Tree, Do}
-use Rattle.word_trees.specs.Cores.{Core, word_in, stamp_in, some_stamp, storing}
+use Rattle.word_trees.specs.Trees.{Tree}
+use Rattle.word_trees.specs.Cores.{Core, word_in, stamp_in, storing}
 use Rattle.word_trees.specs.Leads.{Performs}
 use Rattle.word_trees.proofs.Performing.{store_performs}
-use Rattle.frame_words.specs.Layouts.{Layout, INNER, OPERANDS, GLOBALS, front_words}
+use Rattle.frame_words.specs.Layouts.{Layout, INNER, OPERANDS, GLOBALS}
 use Rattle.frame_words.specs.ValueWords.{val_word, or_zero}
 use Rattle.frame_words.specs.Contents.{Escapes, fixed_contents}
 use Rattle.frame_words.specs.Holding.{HoldsData}
 use Rattle.frame_words.proofs.Reading.{static_long, outside_stack}
-use Rattle.frame_words.proofs.Changing.{with_statics}
 use Rattle.select_rows.proofs.Keeping.{may_reach, get_set, get_set_other, get_some}
-use Rattle.frame_stacks.specs.Stacks.{Ways, StandsFor, IsLasting}
+use Rattle.frame_stacks.specs.Stacks.{Ways, IsLasting}
 use Rattle.frame_stacks.specs.Frames.{HoldsVariable, Holds}
 use Rattle.frame_stacks.specs.Laws.{HasValue, HaveValues}
 use Rattle.frame_calls.specs.Codes.{store_operands}

@@ -1,23 +1,19 @@
 -- What calls and entries come to.
 use Rattle.std.specs.Prelude.{◌≡◌, ℕ, suc, ◌+◌, ◌*◌, ◌≤◌, List, ◌∷◌, length, map, slice_get, Some}
-use Rattle.program_runs.specs.Runs.{Faulted}
-use Rattle.t_base.specs.declared.faults.Fault.{Fault}
 use Rattle.t_base.specs.declared.faults.Fault.TheVariants.{WrongCount}
 use Rattle.t_prim.specs.Values.{Val, ClosureV}
 use Rattle.word_ir.specs.declared.operands.Operand.{Operand}
 use Rattle.word_ir.specs.declared.words.WordBlock.{WordBlock}
 use Rattle.word_ir.specs.declared.words.Words.{Words}
 use Rattle.word_ir.specs.Storage.{Sizes}
-use Rattle.word_ir.specs.Stamps.{Stamped}
 use Rattle.frame_ir.specs.Values.{Value, Lasting, Closure, Env}
 use Rattle.frame_ir.specs.States.{State}
 use Rattle.frame_ir.specs.Arguments.{bound}
 use Rattle.word_trees.specs.Trees.{Tree}
-use Rattle.word_trees.specs.Cores.{Core, ended}
+use Rattle.word_trees.specs.Cores.{Core}
 use Rattle.word_trees.specs.Leads.{Performs}
 use Rattle.frame_words.specs.Layouts.{Layout}
 use Rattle.frame_words.specs.Contents.{Escapes}
-use Rattle.frame_words.specs.Holding.{HoldsData}
 use Rattle.frame_stacks.specs.Stacks.{Ways}
 use Rattle.frame_stacks.specs.Frames.{Holds}
 use Rattle.frame_stacks.specs.Laws.{HasValue, HaveValues, AreParameters, Begins}

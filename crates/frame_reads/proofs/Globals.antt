@@ -1,28 +1,26 @@
 -- Globals are read.
-use Rattle.std.proofs.Common.{◌≡◌, ℕ, zero, suc, ◌+◌, ◌-◌, ◌*◌, ◌%◌, ◌^◌, ◌<◌, ◌≤◌, ◌==◌, true, false, List, ◌∷◌, ◌++◌, slice_get, Option, Some, None, is_some, pos, refl, sym, ap, ◌∙◌, subst, arith}
-use Rattle.std.proofs.lemmas.Bool.{ne_eqb, eq-eqb}
-use Rattle.std.proofs.lemmas.Option.{slice_get_within}
+use Rattle.std.proofs.Common.{◌≡◌, ℕ, ◌+◌, ◌*◌, ◌^◌, ◌<◌, ◌==◌, true, false, ◌∷◌, slice_get, Option, Some, None, is_some, pos, refl, ap, ◌∙◌, arith}
+use Rattle.std.proofs.lemmas.Bool.{ne_eqb}
 use Rattle.program_runs.specs.Runs.{Faulted}
 use Rattle.t_base.specs.declared.basics.Var.{Var}
 use Rattle.t_base.specs.declared.faults.Fault.TheVariants.{Unbound}
 use Rattle.t_prim.specs.Values.{Val, FixV, CharV, NilV, TrueV, SymbolV, StringV, PairV, VectorV, ClosureV, ObjectV, OperationV, BuiltinV, EscapeV}
 use Rattle.word_ir.specs.declared.operands.Operand.TheVariants as operand
-use Rattle.word_ir.specs.declared.words.Test.TheVariants as test
 use Rattle.word_ir.specs.declared.words.Words.{Words}
-use Rattle.word_ir.specs.Word.{Word, Number, moved}
-use Rattle.word_ir.specs.Storage.{Sizes, STATICS_START, STACK_START, static_at, long_at}
+use Rattle.word_ir.specs.Word.{Number, moved}
+use Rattle.word_ir.specs.Storage.{Sizes, STATICS_START, static_at, long_at}
 use Rattle.word_ir.specs.Stamps.{Stamp}
-use Rattle.frame_ir.specs.Values.{Value, Lasting, Env}
+use Rattle.frame_ir.specs.Values.{Lasting, Env}
 use Rattle.frame_ir.specs.States.{State}
 use Rattle.word_trees.specs.Trees.{Tree}
 use Rattle.word_trees.specs.Cores.{Core, some_stamp, binding}
 use Rattle.word_trees.specs.Leads.{Performs}
 use Rattle.word_trees.proofs.Operations.{service_ends}
 use Rattle.word_trees.proofs.Performing.{arrives, ends, load_performs, ask_performs_true, ask_performs_false}
-use Rattle.frame_words.specs.Layouts.{Layout, GLOBALS, front_words}
-use Rattle.frame_words.specs.ValueWords.{UNBOUND, word_for, val_word, or_zero, tag_of}
+use Rattle.frame_words.specs.Layouts.{Layout, GLOBALS}
+use Rattle.frame_words.specs.ValueWords.{UNBOUND, word_for, val_word, or_zero}
 use Rattle.frame_words.specs.Contents.{Escapes}
-use Rattle.frame_words.specs.Holding.{HoldsData, global_word}
+use Rattle.frame_words.specs.Holding.{global_word}
 use Rattle.frame_words.proofs.Segments.{get_left}
 use Rattle.frame_words.proofs.Reading.{static_long}
 use Rattle.frame_words.proofs.Values.{tag_is, char_is, IsCharWord}

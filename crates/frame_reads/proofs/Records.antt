@@ -1,14 +1,13 @@
 -- What closures, objects and cells hold is read.
-use Rattle.std.proofs.Common.{◌≡◌, ℕ, zero, suc, ◌+◌, ◌-◌, ◌*◌, ◌<◌, ◌⊎◌, inl, inr, true, List, [], ◌∷◌, ◌++◌, length, map, replicate, slice_get, Option, Some, None, is_some, pos, refl, sym, ap, ◌∙◌, subst, arith, ◌%◌}
+use Rattle.std.proofs.Common.{◌≡◌, ℕ, zero, suc, ◌+◌, ◌-◌, ◌*◌, ◌<◌, ◌⊎◌, inl, inr, true, List, [], ◌∷◌, slice_get, Option, Some, None, is_some, pos, refl, ap, ◌∙◌, subst, arith}
 use Rattle.std.specs.Option.{option_map_or}
-use Rattle.std.specs.List.{AllByRecursion}
 use Rattle.t_base.specs.declared.basics.Var.{Var}
 use Rattle.t_prim.specs.Values.{Val, ClosureV, ObjectV}
 use Rattle.word_ir.specs.declared.operands.Operand.TheVariants as operand
 use Rattle.word_ir.specs.declared.words.WordOp.TheVariants as op
 use Rattle.word_ir.specs.declared.words.Words.{Words}
-use Rattle.word_ir.specs.Word.{Word, Number, Code, moved}
-use Rattle.word_ir.specs.Storage.{Sizes, HEAP_START, STACK_START, long_at}
+use Rattle.word_ir.specs.Word.{Number, Code, moved}
+use Rattle.word_ir.specs.Storage.{Sizes, long_at}
 use Rattle.word_ir.specs.Stamps.{Stamp}
 use Rattle.frame_ir.specs.Values.{Value, Lasting, InFrame, CellAt, Closure, Object, Env, value_at}
 use Rattle.frame_ir.specs.States.{State, Thing, AClosure, AnObject, ACell}
@@ -19,7 +18,7 @@ use Rattle.word_trees.proofs.Performing.{arrives, load_performs}
 use Rattle.frame_words.specs.Layouts.{Layout, ClosureOf}
 use Rattle.frame_words.specs.ValueWords.{captured_for, captured_word, word_for, or_zero}
 use Rattle.frame_words.specs.Contents.{Escapes, captures, closure_contents, object_contents, cell_contents, thing_contents}
-use Rattle.frame_words.specs.Holding.{IsMade, AreCaptured, HoldsData}
+use Rattle.frame_words.specs.Holding.{IsMade, AreCaptured}
 use Rattle.frame_words.specs.Origins.{OnHeap, InStatics, IsRead}
 use Rattle.frame_words.proofs.Segments.{get_left}
 use Rattle.frame_words.proofs.Reading.{made_is, fixed_is}

@@ -1,5 +1,5 @@
 -- What the code of operations that read comes to.
-use Rattle.std.specs.Prelude.{◌≡◌, ℕ, ◌<◌, List, ◌∷◌, slice_get, Option, Some, None, if◌then◌else◌}
+use Rattle.std.specs.Prelude.{◌≡◌, ℕ, ◌<◌, ◌∷◌, slice_get, Some, None, if◌then◌else◌}
 use Rattle.program_runs.specs.Runs.{Faulted}
 use Rattle.t_base.specs.declared.basics.Var.{Var}
 use Rattle.t_base.specs.declared.faults.Fault.{Fault}
