@@ -1,6 +1,6 @@
 -- A cell gets a value.
-use Rattle.std.proofs.Common.{◌≡◌, ℕ, zero, suc, ◌+◌, ◌-◌, ◌*◌, ◌/◌, ◌^◌, ◌<◌, ◌≤◌, ◌⊎◌, inl, inr, true, false, List, [], ◌∷◌, ◌++◌, length, replicate, slice_get, slice_set, Option, Some, None, is_some, pos, refl, sym, ap, ◌∙◌, subst, arith}
-use Rattle.std.specs.List.{flat_map, AllByRecursion}
+use Rattle.std.proofs.Common.{◌≡◌, ℕ, ◌+◌, ◌-◌, ◌*◌, ◌/◌, ◌^◌, ◌<◌, ◌≤◌, ◌⊎◌, inl, inr, false, List, ◌++◌, length, replicate, slice_get, slice_set, Some, is_some, pos, refl, sym, ap, ◌∙◌, subst, arith}
+use Rattle.std.specs.List.{flat_map}
 use Rattle.std.proofs.lemmas.Bool.{cases_eq, eqb-false}
 use Rattle.std.proofs.lemmas.List.{set-append_left}
 use Rattle.std.proofs.lemmas.Option.{slice_get_within}
@@ -10,10 +10,10 @@ use Rattle.word_ir.specs.declared.operands.Operand.{Operand}
 use Rattle.word_ir.specs.declared.operands.Operand.TheVariants as operand
 use Rattle.word_ir.specs.declared.words.Words.{Words}
 use Rattle.word_ir.specs.Word.{Word, Number, moved}
-use Rattle.word_ir.specs.Storage.{Sizes, Regions, HEAP_START, STACK_START, long_at}
+use Rattle.word_ir.specs.Storage.{Sizes, Regions, HEAP_START, long_at}
 use Rattle.word_ir.specs.Step.{words_in}
 use Rattle.word_ir.specs.Stamps.{Stamp}
-use Rattle.frame_ir.specs.Values.{Value, Lasting, CellAt, Env, value_at}
+use Rattle.frame_ir.specs.Values.{Lasting, CellAt, Env, value_at}
 use Rattle.frame_ir.specs.States.{State, Thing, APair, AVector, AClosure, AnObject, AnEscape, ACell, thing_words, with_cell_at}
 use Rattle.word_trees.specs.Trees.{Tree}
 use Rattle.word_trees.specs.Cores.{Core, stamp_in, storing}
@@ -27,7 +27,7 @@ use Rattle.frame_words.specs.Growing.{WordsStay}
 use Rattle.frame_words.specs.Origins.{OnHeap, IsRead}
 use Rattle.frame_words.proofs.Segments.{changed, apart}
 use Rattle.frame_words.proofs.Sizes.{thing_sized, thing_sound}
-use Rattle.frame_words.proofs.Reading.{heap_within, heap_long}
+use Rattle.frame_words.proofs.Reading.{heap_within}
 use Rattle.frame_words.proofs.Changing.{joined_length}
 use Rattle.frame_words.proofs.Growing.{all_map}
 use Rattle.frame_words.proofs.Values.{on_heap, heap_word}

@@ -1,22 +1,20 @@
 -- The face of a value's word.
-use Rattle.std.proofs.Common.{◌≡◌, ℕ, zero, suc, ◌+◌, ◌-◌, ◌*◌, ◌/◌, ◌%◌, ◌^◌, ◌<◌, ◌≤◌, ◌==◌, ◌&&◌, Bool, true, false, List, [], ◌∷◌, length, slice_get, Option, Some, None, is_some, option_map, option_and_then, negsuc, refl, sym, ap, ◌∙◌, subst, arith}
+use Rattle.std.proofs.Common.{◌≡◌, ℕ, zero, suc, ◌+◌, ◌-◌, ◌*◌, ◌/◌, ◌%◌, ◌^◌, ◌<◌, ◌≤◌, ◌==◌, false, List, [], ◌∷◌, length, slice_get, Option, Some, is_some, option_map, negsuc, refl, sym, ap, ◌∙◌, subst, arith}
 use Rattle.std.specs.Int.{w32, from_be_bytes}
 use Rattle.std.proofs.lemmas.Bool.{eq-eqb, ne_eqb, lt-ltb}
-use Rattle.t_base.specs.declared.basics.Name.{Name}
 use Rattle.t_base.specs.declared.faults.Face.{Face}
 use Rattle.t_base.specs.declared.faults.Face.TheVariants as face
 use Rattle.program_runs.specs.Runs.{Shown}
 use Rattle.t_prim.specs.Values.{Val, FixV, CharV, NilV, TrueV, SymbolV, StringV, PairV, VectorV, ClosureV, ObjectV, OperationV, BuiltinV, EscapeV}
 use Rattle.t_prim.specs.Values as values
-use Rattle.tagged_words.specs.Tags.{fixnum_word}
 use Rattle.word_faces.specs.Faces.{face_of, kind_of, count_of}
 use Rattle.word_faces.specs.Faces as faces
 use Rattle.word_ir.specs.declared.words.Words.{Words}
 use Rattle.word_ir.specs.Names.{image_names}
 use Rattle.word_ir.specs.Word.{Word, Number, byte_of, moved}
-use Rattle.word_ir.specs.Storage.{Sizes, Regions, STATICS_START, long_at, byte_at, bytes_at}
+use Rattle.word_ir.specs.Storage.{Sizes, Regions, long_at, byte_at, bytes_at}
 use Rattle.frame_ir.specs.States.{State}
-use Rattle.frame_words.specs.Layouts.{Layout, SymbolOf, fixed_place, front_words}
+use Rattle.frame_words.specs.Layouts.{Layout, SymbolOf}
 use Rattle.frame_words.specs.ValueWords.{word_for, tag_of, header_of}
 use Rattle.frame_words.specs.Contents.{Escapes}
 use Rattle.frame_words.specs.Holding.{HoldsData}

@@ -1,5 +1,5 @@
 -- A run ends by a value.
-use Rattle.std.proofs.Common.{◌≡◌, ℕ, ◌<◌, List, [], ◌∷◌, length, Some, refl, sym, ap, ◌∙◌, subst, arith}
+use Rattle.std.proofs.Common.{◌≡◌, ℕ, ◌<◌, [], ◌∷◌, length, Some, refl, ap, ◌∙◌}
 use Rattle.program_runs.specs.Runs.{End}
 use Rattle.program_runs.specs.Runs as runs
 use Rattle.t_prim.specs.Values.{Val, shown_of}

@@ -1,5 +1,5 @@
 -- The end of a run by a value.
-use Rattle.std.specs.Prelude.{◌≡◌, ℕ, ◌<◌, List, [], ◌∷◌, length, get_or, slice_get, Some, true, is_some}
+use Rattle.std.specs.Prelude.{◌≡◌, ℕ, ◌<◌, [], ◌∷◌, length, get_or, slice_get, Some, true, is_some}
 use Rattle.program_runs.specs.Runs.{End, Symbol}
 use Rattle.program_runs.specs.Runs as runs
 use Rattle.t_prim.specs.Values.{Val, shown_of, shown_symbol}

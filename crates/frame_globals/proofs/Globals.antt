@@ -1,5 +1,5 @@
 -- A global gets a value.
-use Rattle.std.proofs.Common.{◌≡◌, ℕ, zero, suc, ◌+◌, ◌-◌, ◌*◌, ◌/◌, ◌%◌, ◌^◌, ◌<◌, ◌≤◌, ◌==◌, ◌⊎◌, inl, inr, true, false, List, [], ◌∷◌, ◌++◌, length, slice_get, slice_set, Option, Some, None, is_some, pos, refl, sym, ap, ◌∙◌, subst, arith, length-append}
+use Rattle.std.proofs.Common.{◌≡◌, ℕ, ◌+◌, ◌-◌, ◌*◌, ◌/◌, ◌^◌, ◌<◌, ◌⊎◌, inl, inr, true, List, length, slice_get, slice_set, Option, Some, None, is_some, pos, refl, sym, ap, ◌∙◌, subst, arith, length-append}
 use Rattle.std.specs.List.{flat_map}
 use Rattle.std.proofs.lemmas.Bool.{lt-ltb, cases_eq}
 use Rattle.std.proofs.lemmas.List.{length-set, set-append_left}
@@ -11,24 +11,24 @@ use Rattle.word_ir.specs.declared.operands.Operand.{Operand}
 use Rattle.word_ir.specs.declared.operands.Operand.TheVariants as operand
 use Rattle.word_ir.specs.declared.words.Words.{Words}
 use Rattle.word_ir.specs.Word.{Word, Number, moved}
-use Rattle.word_ir.specs.Storage.{Sizes, Regions, STATICS_START, HEAP_START, STACK_START, static_at, long_at}
+use Rattle.word_ir.specs.Storage.{Sizes, Regions, STATICS_START, HEAP_START, static_at, long_at}
 use Rattle.word_ir.specs.Step.{words_in}
 use Rattle.word_ir.specs.Stamps.{Stamp}
-use Rattle.frame_ir.specs.Values.{Value, Lasting, Env}
+use Rattle.frame_ir.specs.Values.{Lasting, Env}
 use Rattle.frame_ir.specs.States.{State, with_global_at}
 use Rattle.word_trees.specs.Trees.{Tree}
-use Rattle.word_trees.specs.Cores.{Core, word_in, stamp_in, some_stamp, storing, binding}
+use Rattle.word_trees.specs.Cores.{Core, stamp_in, some_stamp, storing, binding}
 use Rattle.word_trees.specs.Leads.{Performs}
 use Rattle.word_trees.proofs.Operations.{service_ends}
 use Rattle.word_trees.proofs.Performing.{arrives, ends, load_performs, store_performs, ask_performs_true, ask_performs_false}
-use Rattle.frame_words.specs.Layouts.{Layout, INNER, GLOBALS, front_words}
+use Rattle.frame_words.specs.Layouts.{Layout, INNER, GLOBALS}
 use Rattle.frame_words.specs.ValueWords.{UNBOUND, word_for, val_word, or_zero}
 use Rattle.frame_words.specs.Contents.{Escapes, fixed_contents}
 use Rattle.frame_words.specs.Holding.{HoldsData, global_word}
 use Rattle.frame_words.specs.Growing.{WordsStay}
 use Rattle.frame_words.proofs.Segments.{get_left}
 use Rattle.frame_words.proofs.Reading.{static_long, outside_stack}
-use Rattle.select_rows.specs.Macros.{var, of_var, fault, word, never}
+use Rattle.select_rows.specs.Macros.{var, fault, word, never}
 use Rattle.select_rows.proofs.Keeping.{may_read, may_reach, bound_word, get_set, get_set_other, get_some}
 use Rattle.frame_stacks.specs.Stacks.{Ways, IsLasting}
 use Rattle.frame_stacks.specs.Frames.{HoldsVariable, Holds}

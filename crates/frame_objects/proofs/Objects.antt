@@ -1,5 +1,5 @@
 -- An object passes a call on.
-use Rattle.std.proofs.Common.{◌≡◌, ℕ, zero, suc, ◌+◌, ◌-◌, ◌*◌, ◌%◌, ◌<◌, ◌≤◌, ◌==◌, true, false, List, [], ◌∷◌, length, map, slice_get, Option, Some, None, is_some, option_map, pos, negsuc, refl, sym, ap, ◌∙◌, subst, arith}
+use Rattle.std.proofs.Common.{◌≡◌, ℕ, suc, ◌+◌, ◌-◌, ◌*◌, ◌%◌, ◌<◌, true, List, [], ◌∷◌, length, map, slice_get, Option, Some, None, is_some, option_map, pos, negsuc, refl, sym, ap, ◌∙◌, subst, arith}
 use Rattle.std.proofs.lemmas.Bool.{ne_eqb, eq-eqb}
 use Rattle.std.proofs.lemmas.Option.{slice_get-map}
 use Rattle.program_runs.specs.Runs.{Faulted}
@@ -10,20 +10,20 @@ use Rattle.word_ir.specs.declared.operands.Operand.TheVariants as operand
 use Rattle.word_ir.specs.declared.words.WordBlock.{WordBlock}
 use Rattle.word_ir.specs.declared.words.WordEnd.TheVariants as last
 use Rattle.word_ir.specs.declared.words.Words.{Words}
-use Rattle.word_ir.specs.Word.{Word, Number, moved}
+use Rattle.word_ir.specs.Word.{Number, moved}
 use Rattle.word_ir.specs.Storage.{Sizes, long_at}
 use Rattle.word_ir.specs.State.{Own, kept}
 use Rattle.word_ir.specs.State as word_state
 use Rattle.word_ir.specs.Step.{words_in}
-use Rattle.word_ir.specs.Stamps.{Stamp, Stamped}
-use Rattle.frame_ir.specs.Values.{Value, Lasting, Object}
+use Rattle.word_ir.specs.Stamps.{Stamp}
+use Rattle.frame_ir.specs.Values.{Lasting, Object}
 use Rattle.frame_ir.specs.States.{State, AnObject}
 use Rattle.word_trees.specs.Trees.{Tree, Close}
 use Rattle.word_trees.specs.Cores.{Core, at, word_in, stamp_in, some_stamp, binding, entering, bound_words, bound_stamps}
 use Rattle.word_trees.specs.Leads.{Performs}
 use Rattle.word_trees.proofs.Ends.{jump_enters}
 use Rattle.word_trees.proofs.Operations.{service_ends}
-use Rattle.word_trees.proofs.Performing.{performs_more, ends, enters_performs, here_leads, load_performs, ask_performs_true, ask_performs_false}
+use Rattle.word_trees.proofs.Performing.{ends, enters_performs, here_leads, load_performs, ask_performs_true, ask_performs_false}
 use Rattle.frame_words.specs.Layouts.{Layout}
 use Rattle.frame_words.specs.ValueWords.{val_word, word_for, or_zero, tag_of}
 use Rattle.frame_words.specs.Contents.{Escapes, thing_contents}
@@ -34,7 +34,6 @@ use Rattle.frame_words.proofs.Values.{on_heap, heap_word, header_is, tag_is}
 use Rattle.select_rows.specs.Macros.{var, of_var, word, fault, never}
 use Rattle.select_rows.proofs.Keeping.{may_read, newest_kept}
 use Rattle.frame_stacks.specs.Stacks.{Ways, IsLasting}
-use Rattle.frame_stacks.specs.Frames.{Holds}
 use Rattle.frame_reads.specs.Laws.{Fails}
 use Rattle.frame_calls.specs.Codes.{params_from, call_params, apply_code}
 use Rattle.frame_calls.specs.Calls.{HoldsCall, Calls}

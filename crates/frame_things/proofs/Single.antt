@@ -1,5 +1,5 @@
 -- One thing is made: room is taken, its words are stored, and its address is bound.
-use Rattle.std.proofs.Common.{◌≡◌, ℕ, zero, suc, ◌+◌, ◌-◌, ◌*◌, ◌/◌, ◌%◌, ◌^◌, ◌<◌, ◌≤◌, ◌⊎◌, inl, inr, false, List, [], ◌∷◌, ◌++◌, length, map, replicate, slice_get, Option, Some, None, pos, refl, sym, ap, ◌∙◌, subst, arith, append_assoc, append-nil, length-append}
+use Rattle.std.proofs.Common.{◌≡◌, ℕ, suc, ◌+◌, ◌-◌, ◌*◌, ◌/◌, ◌%◌, ◌^◌, ◌<◌, ◌≤◌, inl, inr, false, List, [], ◌∷◌, ◌++◌, length, replicate, Some, None, refl, sym, ap, ◌∙◌, subst, arith, append_assoc, append-nil, length-append}
 use Rattle.std.specs.List.{flat_map, AllByRecursion}
 use Rattle.std.proofs.lemmas.Bool.{cases_lt}
 use Rattle.program_runs.specs.Runs.{Full}
@@ -7,7 +7,6 @@ use Rattle.t_base.specs.declared.basics.Var.{Var}
 use Rattle.word_ir.specs.declared.operands.Operand.{Operand}
 use Rattle.word_ir.specs.declared.operands.Operand.TheVariants as operand
 use Rattle.word_ir.specs.declared.words.Arith.TheVariants as kind
-use Rattle.word_ir.specs.declared.words.WordOp.TheVariants as op
 use Rattle.word_ir.specs.declared.words.Words.{Words}
 use Rattle.word_ir.specs.Word.{Word, Number}
 use Rattle.word_ir.specs.Storage.{Sizes, HEAP_START}
@@ -18,7 +17,7 @@ use Rattle.word_ir.specs.Stamps.{Stamp, Stamped}
 use Rattle.frame_ir.specs.Values.{Value, Env}
 use Rattle.frame_ir.specs.States.{State, AnEscape, thing_words}
 use Rattle.tagged_words.proofs.Chars.{signed_natural, fitted_natural}
-use Rattle.word_trees.specs.Trees.{Tree, Do}
+use Rattle.word_trees.specs.Trees.{Tree}
 use Rattle.word_trees.specs.Cores.{Core, word_in, some_stamp, heap_left, binding, taking}
 use Rattle.word_trees.specs.Leads.{Performs}
 use Rattle.word_trees.proofs.Operations.{service_of_two_ends}
@@ -33,16 +32,15 @@ use Rattle.frame_words.proofs.Sizes.{thing_sized}
 use Rattle.frame_words.proofs.Changing.{joined_length}
 use Rattle.frame_words.proofs.Growing.{words_stay}
 use Rattle.select_rows.specs.Macros.{var, of_var, word, never}
-use Rattle.select_rows.specs.Kept.{IsOlder, IsOutOfHeap}
+use Rattle.select_rows.specs.Kept.{IsOlder}
 use Rattle.select_rows.specs.Codes.{make}
 use Rattle.select_rows.proofs.Keeping.{older_kept, newest_kept, keeps_same}
 use Rattle.frame_stacks.specs.Stacks.{Ways, StandsFor}
-use Rattle.frame_stacks.specs.Frames.{HoldsVariable, HoldsVariables, Holds}
-use Rattle.frame_stacks.specs.Laws.{GoesOn}
+use Rattle.frame_stacks.specs.Frames.{HoldsVariable, Holds}
 use Rattle.frame_stacks.proofs.Gets.{binding_held}
 use Rattle.frame_heap.specs.Codes.{heap_stores}
 use Rattle.frame_heap.specs.Laws.{GoesOnOrFull}
-use Rattle.frame_heap.proofs.Filling.{with_heap, IsFilled, zeros_left, least_less, heap_store_performs}
+use Rattle.frame_heap.proofs.Filling.{with_heap, IsFilled, zeros_left, heap_store_performs}
 use Rattle.frame_heap.proofs.Held.{stands_kept}
 use Rattle.frame_heap.proofs.Grown.{IsMore, grown_held}
 use Rattle.frame_heap.proofs.Variables.{same_variables}
@@ -107,8 +105,8 @@ module _ (words : Words) (sizes : Sizes) (Q : Stamped → Type 0) (t base : ℕ)
       subst (λ k. Performs words sizes Q 1 k (heap_stores t place (x ∷ xs) rest) d) n
       (heap_store_performs words sizes Q t base old base (omega arith) 1 (3 * length xs + cost) place d done (length xs + left) x w (heap_stores t (suc place) xs rest) (subst (IsFilled d old base done) m h) address is (omega (arith, small)) held.0
       (λ hs stamps filled here others.
-        list_stored cost rest xs ws (suc place) (with_heap d hs stamps) (done ++ w ∷ []) left filled address more (omega (arith, small)) (same_words t d (with_heap d hs stamps) xs ws refl refl held.2)
-        (λ hs' stamps' all. next hs' stamps' (subst (λ k. IsFilled (with_heap d hs' stamps') old base k left) (append_assoc done (w ∷ []) ws) all))))
+      list_stored cost rest xs ws (suc place) (with_heap d hs stamps) (done ++ w ∷ []) left filled address more (omega (arith, small)) (same_words t d (with_heap d hs stamps) xs ws refl refl held.2)
+      (λ hs' stamps' all. next hs' stamps' (subst (λ k. IsFilled (with_heap d hs' stamps') old base k left) (append_assoc done (w ∷ []) ws) all))))
 
 module _ (words : Words) (sizes : Sizes) (l : Layout) (e : Escapes) (g : Ways) (t : ℕ) (s v : State) (env : Env) (c : Core) (to : Var) (value : Value) (xs : List Operand) (ws : List Word) (pad : ℕ) (rest : Tree) (h : Holds sizes l e g t s env c) where
   abbrev pub u : State
@@ -205,19 +203,19 @@ module _ (words : Words) (sizes : Sizes) (l : Layout) (e : Escapes) (g : Ways) (
           (list_stored words sizes Q t s.store.heap c.longs.heap 3 (make kind.Add (of_var t) (word 2) to rest) xs ws 0 taken front (pad + left) started address (omega (arith, front_length)) (omega (arith, room, k.words_is, h.data_held.small, count))
           (same_words t (binding c (var t) (Number c.next) None) taken xs ws refl refl (temporary_words t c (Number c.next) None xs ws held))
           (λ hs ls filled.
-            compute_performs words sizes Q c.next 2 (c.next + 2) (newest_kept c.env t (Number c.next)) refl sum_is
-            (arrives words sizes Q
-            (λ block place moves steps spelled. inl (record {
-              core = binding (with_heap taken hs ls) to (Number (c.next + 2)) None;
-              holds = binding_held sizes l e g t u env (with_heap taken hs ls) to.0 value (Number (c.next + 2)) None below
-                  (subst (λ n. StandsFor sizes l g u value (Number n) None) (let n : HEAP_START + 4 * s.store.heap + 2 ≡ c.next + 2 = omega (arith, h.data_held.next_is) in n) k.stands) (thing_held hs ls filled);
-              block = block;
-              place = place;
-              moves = moves;
-              steps = steps;
-              there = refl;
-              spelled = spelled;
-            }))))))
+          compute_performs words sizes Q c.next 2 (c.next + 2) (newest_kept c.env t (Number c.next)) refl sum_is
+          (arrives words sizes Q
+          (λ block place moves steps spelled. inl (record {
+            core = binding (with_heap taken hs ls) to (Number (c.next + 2)) None;
+            holds = binding_held sizes l e g t u env (with_heap taken hs ls) to.0 value (Number (c.next + 2)) None below
+                (subst (λ n. StandsFor sizes l g u value (Number n) None) (let n : HEAP_START + 4 * s.store.heap + 2 ≡ c.next + 2 = omega (arith, h.data_held.next_is) in n) k.stands) (thing_held hs ls filled);
+            block = block;
+            place = place;
+            moves = moves;
+            steps = steps;
+            there = refl;
+            spelled = spelled;
+          }))))))
 
     pub thing_performs : Performs words sizes Q 1 (8 + 3 * length xs) (make_thing t (length ws + pad) xs to rest) c
     thing_performs = elim (cases_lt (heap_left sizes c) (4 * (length ws + pad))) [

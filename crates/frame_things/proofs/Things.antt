@@ -1,6 +1,6 @@
 -- A cell and an object.
-use Rattle.std.proofs.Common.{◌≡◌, ℕ, zero, suc, ◌+◌, ◌-◌, ◌*◌, ◌%◌, ◌<◌, ◌≤◌, Bool, true, false, List, [], ◌∷◌, ◌++◌, length, map, replicate, slice_get, Option, Some, None, is_some, option_map, refl, sym, ap, ◌∙◌, subst, arith, append-nil}
-use Rattle.std.specs.List.{flat_map, list_all, AllByRecursion}
+use Rattle.std.proofs.Common.{◌≡◌, ℕ, ◌+◌, ◌*◌, ◌%◌, ◌<◌, true, false, List, [], ◌∷◌, ◌++◌, length, map, replicate, slice_get, Some, None, is_some, option_map, refl, sym, ap, ◌∙◌, subst, arith, append-nil}
+use Rattle.std.specs.List.{list_all, AllByRecursion}
 use Rattle.std.specs.Option.{option_map_or}
 use Rattle.std.proofs.lemmas.Bool.{ne_eqb}
 use Rattle.std.proofs.lemmas.List.{length-map}
@@ -12,7 +12,6 @@ use Rattle.word_ir.specs.declared.operands.Operand.TheVariants as operand
 use Rattle.word_ir.specs.declared.words.Words.{Words}
 use Rattle.word_ir.specs.Word.{Word, Number}
 use Rattle.word_ir.specs.Storage.{Sizes, HEAP_START}
-use Rattle.word_ir.specs.State.{Own, kept}
 use Rattle.frame_ir.specs.Values.{Value, Lasting, CellAt, Object, Env, value_at, is_lasting, record_words, cell_words}
 use Rattle.frame_ir.specs.States.{State, Thing, APair, AVector, AClosure, AnObject, AnEscape, ACell, thing_words, taking, with_cell, with_object}
 use Rattle.frame_ir.specs.Arguments.{each_of, kept_values}
@@ -23,16 +22,16 @@ use Rattle.word_trees.proofs.Performing.{performs_more}
 use Rattle.frame_words.specs.Segments.{place_of, total_of}
 use Rattle.frame_words.specs.Layouts.{Layout, TemplateOf, fixed_place, fixed_address}
 use Rattle.frame_words.specs.ValueWords.{same_thing, heap_place, word_for, val_word, or_zero, tagged, CELL}
-use Rattle.frame_words.specs.Contents.{Escapes, captures, thing_contents, cell_contents, object_contents}
-use Rattle.frame_words.specs.Holding.{IsMade, AreCaptured, HoldsData}
+use Rattle.frame_words.specs.Contents.{Escapes, captures, thing_contents, object_contents}
+use Rattle.frame_words.specs.Holding.{IsMade}
 use Rattle.frame_words.specs.Growing.{WordsStay, Adds}
 use Rattle.frame_words.proofs.Segments.{get_left, place_last, later_place}
 use Rattle.frame_words.proofs.Identity.{thing_symmetric}
 use Rattle.frame_words.proofs.Sizes.{thing_same}
 use Rattle.frame_words.proofs.Growing.{words_stay, sizes_stay, total_alike, distinct_more, captures_stay, all_captured_stay}
 use Rattle.select_rows.specs.Macros.{word}
-use Rattle.frame_stacks.specs.Stacks.{Ways, StandsFor, IsLasting}
-use Rattle.frame_stacks.specs.Frames.{HoldsVariable, HoldsVariables, Holds}
+use Rattle.frame_stacks.specs.Stacks.{Ways, IsLasting}
+use Rattle.frame_stacks.specs.Frames.{HoldsVariable, Holds}
 use Rattle.frame_stacks.specs.Laws.{HasValue}
 use Rattle.frame_pushes.proofs.Kept.{each_by, values_count}
 use Rattle.frame_heap.specs.Laws.{GoesOnOrFull}
