@@ -51,7 +51,7 @@ some_number None k = absurd (cc)
 
 -- ---- parameters below a number
 
-higher_parameters : (t more : ℕ) (params : List Var) → AreParameters t params → AreParameters (t + more) params
+pub higher_parameters : (t more : ℕ) (params : List Var) → AreParameters t params → AreParameters (t + more) params
 higher_parameters t more [] h = tt
 higher_parameters t more (x ∷ xs) h = (omega (arith, h.0), h.1, higher_parameters t more xs h.2)
 
@@ -64,7 +64,7 @@ bound_below t [] vs x w d found = absurd (cc)
 bound_below t (p ∷ ps) [] x w d found = absurd (cc)
 bound_below t (p ∷ ps) (v ∷ vs) x w d found = bound_below_by t p.0 x (p.0 == x) v w (bound ps vs) refl d.0 (bound_below t ps vs x w d.2) found
 
-lower_held : (sizes : Sizes) (l : Layout) (e : Escapes) (g : Ways) (t more : ℕ) (s : State) (params : List Var) (vs : List Value) (c : Core) → AreParameters t params → Holds sizes l e g (t + more) s (bound params vs) c → Holds sizes l e g t s (bound params vs) c
+pub lower_held : (sizes : Sizes) (l : Layout) (e : Escapes) (g : Ways) (t more : ℕ) (s : State) (params : List Var) (vs : List Value) (c : Core) → AreParameters t params → Holds sizes l e g (t + more) s (bound params vs) c → Holds sizes l e g t s (bound params vs) c
 lower_held sizes l e g t more s params vs c d h = record {
   data_held = h.data_held;
   frames = h.frames;
@@ -83,14 +83,14 @@ below_by j i lt differs = elim (Rattle.std.proofs.lemmas.Bool.cases_lt j (5 + i)
 ]
 
 module _ (words : Words) (sizes : Sizes) (l : Layout) (e : Escapes) (g : Ways) (t : ℕ) (s : State) (f : Value) (args : List Val) (c : Core) (h : HoldsCall sizes l e g t s f args c) where
-  abbrev with_env : word_state.Env Word → word_state.Env Stamp → Core
+  abbrev pub with_env : word_state.Env Word → word_state.Env Stamp → Core
   with_env ws stamps = record c { env = ws; stamps = stamps }
 
   -- the procedure and the first operands are bound
-  record Loaded (upto : ℕ) (ws : word_state.Env Word) (stamps : word_state.Env Stamp) : Type 0 where
-    held : kept ws (Own (t + 1)) ≡ Some h.word
-    stamped : some_stamp (kept stamps (Own (t + 1))) ≡ h.stamp
-    operands : (i : ℕ) (v : Val) → slice_get args i ≡ Some v → i < upto → kept ws (Own (t + 2 + i)) ≡ Some (Number (val_word l s v))
+  pub record Loaded (upto : ℕ) (ws : word_state.Env Word) (stamps : word_state.Env Stamp) : Type 0 where
+    pub held : kept ws (Own (t + 1)) ≡ Some h.word
+    pub stamped : some_stamp (kept stamps (Own (t + 1))) ≡ h.stamp
+    pub operands : (i : ℕ) (v : Val) → slice_get args i ≡ Some v → i < upto → kept ws (Own (t + 2 + i)) ≡ Some (Number (val_word l s v))
 
   other_kept : {X : Type 0} (env : word_state.Env X) (u v : ℕ) (x : X) → (u ≡ v → ⊥) → kept ((Own u, x) ∷ env) (Own v) ≡ kept env (Own v)
   other_kept env u v x ne = rw (ne_eqb u v ne) refl
@@ -114,7 +114,7 @@ module _ (words : Words) (sizes : Sizes) (l : Layout) (e : Escapes) (g : Ways) (
           other_kept ws (t + 7 + i) (t + 2 + j) (Number (val_word l s v)) (λ eq. differs (omega (arith, eq))) ∙ o.operands j y at (below_by j i lt differs)
 
   module _ (Q : Stamped → Type 0) where
-    loads_perform : (k i cost : ℕ) (ws : word_state.Env Word) (stamps : word_state.Env Stamp) (rest : Tree) → 5 + (i + k) ≤ length args → Loaded (5 + i) ws stamps
+    pub loads_perform : (k i cost : ℕ) (ws : word_state.Env Word) (stamps : word_state.Env Stamp) (rest : Tree) → 5 + (i + k) ≤ length args → Loaded (5 + i) ws stamps
         → ((ws' : word_state.Env Word) (stamps' : word_state.Env Stamp) → Loaded (5 + (i + k)) ws' stamps' → Performs words sizes Q 1 cost rest (with_env ws' stamps'))
         → Performs words sizes Q 1 (2 * k + cost) (load_operands t i k rest) (with_env ws stamps)
     loads_perform zero i cost ws stamps rest le o next =
@@ -139,7 +139,7 @@ module _ (words : Words) (sizes : Sizes) (l : Layout) (e : Escapes) (g : Ways) (
 
   -- ---- the jump
 
-  operands_have : (ws : word_state.Env Word) (stamps : word_state.Env Stamp) (start : ℕ) (rest : List Val) → ((i : ℕ) (v : Val) → slice_get rest i ≡ Some v → kept ws (Own (start + i)) ≡ Some (Number (val_word l s v))) → AreKnown l s rest → start + length rest ≤ t + 30
+  pub operands_have : (ws : word_state.Env Word) (stamps : word_state.Env Stamp) (start : ℕ) (rest : List Val) → ((i : ℕ) (v : Val) → slice_get rest i ≡ Some v → kept ws (Own (start + i)) ≡ Some (Number (val_word l s v))) → AreKnown l s rest → start + length rest ≤ t + 30
       → HaveValues words sizes l g (t + 30) s (with_env ws stamps) (map operand.Var (params_from start (length rest))) (map Lasting rest)
   operands_have ws stamps start [] found known le = tt
   operands_have ws stamps start (v ∷ rest) found known le =
@@ -186,7 +186,7 @@ module _ (words : Words) (sizes : Sizes) (l : Layout) (e : Escapes) (g : Ways) (
             let k : Holds sizes l e g t s [] (with_env ws stamps) = nothing_bound sizes l e g t s [] c ws stamps h.holds in
             record { data_held = k.data_held; frames = k.frames; escapes = k.escapes; variables = record { each = λ x v found. absurd (cc) } }
 
-    at_first : Loaded 5 c.env c.stamps
+    pub at_first : Loaded 5 c.env c.stamps
     at_first = record { held = h.held; stamped = h.stamped; operands = h.operands }
 
     behind_loads : Performs words sizes Q 1 (2 * (length args - 5) + (2 + length args)) (load_operands t 0 (length args - 5) (jump (g.begins code) (map operand.Var (params_from (t + 1) (suc (length args)))))) c
