@@ -1,16 +1,16 @@
 -- The state behind a group of closures: where they stand, and what their words and contents are.
-use Rattle.std.proofs.Common.{◌≡◌, ℕ, zero, suc, ◌+◌, ◌-◌, ◌*◌, ◌/◌, ◌<◌, ◌≤◌, ◌==◌, Bool, true, false, List, [], ◌∷◌, ◌++◌, length, slice_get, Option, Some, None, option_map, refl, sym, ap, ◌∙◌, subst, arith, append_assoc, length-append}
+use Rattle.std.proofs.Common.{◌≡◌, ℕ, suc, ◌+◌, ◌*◌, ◌<◌, false, List, [], ◌∷◌, ◌++◌, length, slice_get, Some, None, option_map, refl, sym, ap, ◌∙◌, subst, arith}
 use Rattle.std.specs.List.{flat_map, AllByRecursion}
 use Rattle.std.specs.Option.{option_map_or}
 use Rattle.std.proofs.lemmas.Bool.{eq-eqb, ne_eqb}
 use Rattle.std.proofs.lemmas.Option.{slice_get_within}
-use Rattle.t_prim.specs.Values.{Val, Text, Literal, PrintName, ClosureV, text_of}
+use Rattle.t_prim.specs.Values.{Text, Literal, PrintName, ClosureV, text_of}
 use Rattle.word_ir.specs.Word.{Word}
 use Rattle.word_ir.specs.Storage.{Sizes, Regions, HEAP_START}
 use Rattle.frame_ir.specs.Values.{Closure, record_words}
 use Rattle.frame_ir.specs.States.{State, Thing, APair, AVector, AClosure, AnObject, AnEscape, ACell, thing_words}
 use Rattle.frame_words.specs.Segments.{place_of, total_of, AreDistinct}
-use Rattle.frame_words.specs.Layouts.{Layout, ClosureOf, PairOf, fixed_place, fixed_address}
+use Rattle.frame_words.specs.Layouts.{Layout, ClosureOf, fixed_address}
 use Rattle.frame_words.specs.ValueWords.{same_thing, heap_place, word_for, tagged, or_other}
 use Rattle.frame_words.specs.Contents.{Escapes, closure_contents, thing_contents}
 use Rattle.frame_words.specs.Holding.{IsMade, AreCaptured, HoldsData}
@@ -201,9 +201,10 @@ module _ (sizes : Sizes) (l : Layout) (e : Escapes) (s : State) (storage : Regio
   made_by : (m : ℕ) (xs : List Closure) → ((j : ℕ) (c : Closure) → slice_get xs j ≡ Some c → slice_get u.closures (m + j) ≡ Some c) → AllByRecursion (λ c. AreCaptured l u c.captured) xs → AllByRecursion (IsMade l u) (closures_from m xs)
   made_by m [] at k = tt
   made_by m (c ∷ xs) at k =
-      let zero_is : m ≡ m + 0 = omega arith in
-      ((c, ap (slice_get u.closures) zero_is ∙ at 0 c refl, k.0),
-      made_by (suc m) xs (λ j x there. let i : suc m + j ≡ m + suc j = omega arith in ap (slice_get u.closures) i ∙ at (suc j) x there) k.1)
+      let zero_is : m ≡ m + 0 = omega arith in (
+        (c, ap (slice_get u.closures) zero_is ∙ at 0 c refl, k.0),
+        made_by (suc m) xs (λ j x there. let i : suc m + j ≡ m + suc j = omega arith in ap (slice_get u.closures) i ∙ at (suc j) x there) k.1,
+      )
 
   pub records_made : AllByRecursion (λ c. AreCaptured l u c.captured) cs → AllByRecursion (IsMade l u) (closures_from (length s.closures) cs)
   records_made k = made_by (length s.closures) cs record_at k

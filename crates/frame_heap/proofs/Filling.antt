@@ -1,5 +1,5 @@
 -- Words of the heap that were taken are stored one by one.
-use Rattle.std.proofs.Common.{◌≡◌, ℕ, zero, suc, ◌+◌, ◌-◌, ◌*◌, ◌/◌, ◌%◌, ◌^◌, ◌<◌, ◌≤◌, List, [], ◌∷◌, ◌++◌, length, map, replicate, slice_get, slice_set, Option, Some, None, pos, refl, sym, ap, ◌∙◌, subst, arith, length-append, append_assoc, append-nil}
+use Rattle.std.proofs.Common.{◌≡◌, ℕ, suc, ◌+◌, ◌*◌, ◌^◌, ◌<◌, ◌≤◌, List, [], ◌∷◌, ◌++◌, length, map, replicate, slice_get, slice_set, Some, pos, refl, sym, ap, ◌∙◌, subst, arith, length-append, append_assoc, append-nil}
 use Rattle.std.proofs.lemmas.List.{length-replicate, replicate-append-replicate}
 use Rattle.t_base.specs.declared.basics.Var.{Var}
 use Rattle.word_ir.specs.declared.operands.Operand.{Operand}
@@ -7,7 +7,7 @@ use Rattle.word_ir.specs.declared.operands.Operand.TheVariants as operand
 use Rattle.word_ir.specs.declared.words.WordOp.TheVariants as op
 use Rattle.word_ir.specs.declared.words.Words.{Words}
 use Rattle.word_ir.specs.Word.{Word, Number, moved}
-use Rattle.word_ir.specs.Storage.{Sizes, HEAP_START, STACK_START, long_at}
+use Rattle.word_ir.specs.Storage.{Sizes, HEAP_START, long_at}
 use Rattle.word_ir.specs.State.{Own, kept}
 use Rattle.word_ir.specs.State as word_state
 use Rattle.word_ir.specs.Step.{words_in}
@@ -110,5 +110,5 @@ module _ (words : Words) (sizes : Sizes) (Q : Stamped → Type 0) (t base : ℕ)
       (least_less words sizes Q 1 (3 + (3 * length xs + cost)) (heap_stores t place (map operand.Var (x ∷ xs)) rest) d
       (heap_store_performs 0 (3 * length xs + cost) place d done (length xs + left) (operand.Var x) w (heap_stores t (suc place) (map operand.Var xs) rest) (subst (IsFilled d old free done) m h) address is (omega (arith, small)) held.0
       (λ hs stamps filled here others.
-        heap_vars_perform cost rest xs ws (suc place) (with_heap d hs stamps) (done ++ w ∷ []) left filled address more (omega (arith, small)) held.1
-        (λ hs' stamps' all. next hs' stamps' (subst (λ k. IsFilled (with_heap d hs' stamps') old free k left) (append_assoc done (w ∷ []) ws) all)))))
+      heap_vars_perform cost rest xs ws (suc place) (with_heap d hs stamps) (done ++ w ∷ []) left filled address more (omega (arith, small)) held.1
+      (λ hs' stamps' all. next hs' stamps' (subst (λ k. IsFilled (with_heap d hs' stamps') old free k left) (append_assoc done (w ∷ []) ws) all)))))

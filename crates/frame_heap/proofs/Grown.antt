@@ -1,25 +1,25 @@
 -- Data, frames and escapes are held where the words of what is made stand behind what was on the heap.
-use Rattle.std.proofs.Common.{◌≡◌, ℕ, ◌+◌, ◌-◌, ◌*◌, ◌/◌, ◌<◌, ◌≤◌, List, ◌++◌, length, replicate, slice_get, Some, None, refl, sym, ap, ◌∙◌, subst, arith, append_assoc}
+use Rattle.std.proofs.Common.{◌≡◌, ℕ, ◌+◌, ◌-◌, ◌*◌, ◌/◌, ◌≤◌, List, ◌++◌, None, refl, sym, ◌∙◌, arith}
 use Rattle.std.specs.List.{flat_map, AllByRecursion}
-use Rattle.word_ir.specs.Word.{Word, Number}
+use Rattle.word_ir.specs.Word.{Word}
 use Rattle.word_ir.specs.Storage.{Sizes, HEAP_START}
 use Rattle.word_ir.specs.State as word_state
 use Rattle.word_ir.specs.Stamps.{Stamp}
 use Rattle.frame_ir.specs.Values.{Env}
-use Rattle.frame_ir.specs.States.{State, Thing, AnEscape, AClosure, thing_words}
+use Rattle.frame_ir.specs.States.{State, AnEscape, AClosure, thing_words}
 use Rattle.word_trees.specs.Cores.{Core}
 use Rattle.frame_words.specs.Segments.{place_of, total_of, AreDistinct}
-use Rattle.frame_words.specs.Layouts.{Layout, fixed_place}
+use Rattle.frame_words.specs.Layouts.{Layout}
 use Rattle.frame_words.specs.ValueWords.{same_thing, heap_place}
 use Rattle.frame_words.specs.Contents.{Escapes, thing_contents}
 use Rattle.frame_words.specs.Holding.{IsMade, HoldsData}
-use Rattle.frame_words.specs.Growing.{WordsStay, Adds}
+use Rattle.frame_words.specs.Growing.{Adds}
 use Rattle.frame_words.proofs.Growing.{words_stay, no_place, data_grow}
 use Rattle.frame_words.proofs.Reading.{heap_within}
-use Rattle.frame_stacks.specs.Stacks.{Ways, stack_of}
-use Rattle.frame_stacks.specs.Frames.{HoldsFrames, HoldsEscapes, HoldsVariables, Holds}
+use Rattle.frame_stacks.specs.Stacks.{Ways}
+use Rattle.frame_stacks.specs.Frames.{HoldsVariables, Holds}
 use Rattle.frame_heap.proofs.Filling.{IsFilled}
-use Rattle.frame_heap.proofs.Held.{KeepsFrames, changed, frames_held, escapes_held}
+use Rattle.frame_heap.proofs.Held.{KeepsFrames, frames_held, escapes_held}
 
 module _ (sizes : Sizes) (l : Layout) (e : Escapes) (g : Ways) (t : ℕ) (s v : State) (env : Env) (c : Core) (h : Holds sizes l e g t s env c) where
   abbrev u : State

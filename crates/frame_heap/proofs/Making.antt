@@ -1,15 +1,13 @@
 -- The code of a group of closures: room, addresses, records.
-use Rattle.std.proofs.Common.{◌≡◌, ℕ, zero, suc, ◌+◌, ◌-◌, ◌*◌, ◌/◌, ◌%◌, ◌^◌, ◌<◌, ◌≤◌, ◌⊎◌, inl, inr, Bool, true, false, List, [], ◌∷◌, ◌++◌, length, map, replicate, slice_get, Option, Some, None, option_map, is_some, pos, refl, sym, ap, ◌∙◌, subst, arith, append_assoc, append-nil, length-append}
+use Rattle.std.proofs.Common.{◌≡◌, ℕ, zero, suc, ◌+◌, ◌-◌, ◌*◌, ◌/◌, ◌%◌, ◌^◌, ◌<◌, ◌≤◌, inl, inr, true, false, List, [], ◌∷◌, ◌++◌, length, map, replicate, Option, Some, None, is_some, refl, sym, ap, ◌∙◌, subst, arith, append_assoc, append-nil, length-append}
 use Rattle.std.specs.List.{flat_map, list_all, AllByRecursion}
 use Rattle.std.proofs.lemmas.Bool.{cases_lt}
 use Rattle.std.proofs.lemmas.List.{length-replicate}
 use Rattle.program_runs.specs.Runs.{Full}
 use Rattle.t_base.specs.declared.basics.Var.{Var}
 use Rattle.t_prim.specs.Values.{ClosureV}
-use Rattle.word_ir.specs.declared.operands.Operand.{Operand}
 use Rattle.word_ir.specs.declared.operands.Operand.TheVariants as operand
 use Rattle.word_ir.specs.declared.words.Arith.TheVariants as kind
-use Rattle.word_ir.specs.declared.words.WordOp.TheVariants as op
 use Rattle.word_ir.specs.declared.words.Words.{Words}
 use Rattle.word_ir.specs.Word.{Word, Number, Code}
 use Rattle.word_ir.specs.Storage.{Sizes, HEAP_START}
@@ -25,34 +23,31 @@ use Rattle.frame_ir.specs.States.{State, AClosure, thing_words}
 use Rattle.frame_ir.specs.Arguments.{kept_values}
 use Rattle.frame_ir.specs.Groups.{Making, heap_count, address, with_addresses, youngest_birth, addressed}
 use Rattle.tagged_words.proofs.Chars.{signed_natural, fitted_natural}
-use Rattle.word_trees.specs.Trees.{Tree, Do}
-use Rattle.word_trees.specs.Cores.{Core, word_in, some_stamp, heap_left, binding, taking}
+use Rattle.word_trees.specs.Trees.{Tree}
+use Rattle.word_trees.specs.Cores.{Core, some_stamp, heap_left, binding}
 use Rattle.word_trees.specs.Leads.{Performs}
 use Rattle.word_trees.proofs.Operations.{service_of_two_ends}
 use Rattle.word_trees.proofs.Performing.{performs_more, arrives, ends, moves_performs, take_performs, no_heap_performs, compute_performs}
-use Rattle.frame_words.specs.Layouts.{Layout, ClosureOf, fixed_place, fixed_address, front_words}
-use Rattle.frame_words.specs.ValueWords.{heap_place, heap_address, word_for, tagged, or_other, or_zero}
+use Rattle.frame_words.specs.Layouts.{Layout, ClosureOf, fixed_place}
+use Rattle.frame_words.specs.ValueWords.{heap_place, word_for}
 use Rattle.frame_words.specs.Contents.{Escapes, captures, closure_contents, thing_contents}
 use Rattle.frame_words.specs.Holding.{AreCaptured, HoldsData}
 use Rattle.frame_words.proofs.Sizes.{thing_sized}
 use Rattle.frame_words.proofs.Changing.{joined_length}
 use Rattle.frame_words.proofs.Growing.{no_place, joined_append}
-use Rattle.select_rows.specs.Macros.{var, of_var, word, never}
-use Rattle.select_rows.specs.Kept.{IsOutOfHeap}
-use Rattle.select_rows.specs.Codes.{make}
+use Rattle.select_rows.specs.Macros.{var, word, never}
 use Rattle.select_rows.proofs.Keeping.{older_kept, newest_kept, keeps_same}
-use Rattle.frame_stacks.specs.Stacks.{Ways, StandsFor}
+use Rattle.frame_stacks.specs.Stacks.{Ways}
 use Rattle.frame_stacks.specs.Frames.{HoldsVariable, HoldsVariables, Holds}
-use Rattle.frame_stacks.specs.Laws.{GoesOn}
 use Rattle.frame_pushes.proofs.Kept.{values_count}
-use Rattle.frame_heap.specs.Groups.{with_record, heap_records, IsOutside, AreOutside, closures_from, words_of_records, with_records}
+use Rattle.frame_heap.specs.Groups.{with_record, heap_records, IsOutside, AreOutside, words_of_records, with_records}
 use Rattle.frame_heap.specs.Codes.{take_words, heap_stores, words_at, group_words, static_closure, address_code, addresses, record_code, records, make_group}
 use Rattle.frame_heap.specs.Laws.{GoesOnOrFull, AreKept, group_cost}
 use Rattle.frame_heap.proofs.Filling.{with_heap, IsFilled, zeros_left, least_less, HaveWords, words_count, heap_store_performs, heap_vars_perform}
 use Rattle.frame_heap.proofs.Held.{stands_kept}
-use Rattle.frame_heap.proofs.Grown.{IsMore, grown_held}
+use Rattle.frame_heap.proofs.Grown.{grown_held}
 use Rattle.frame_heap.proofs.Closures.{records_add, records_stay, records_total, record_word, records_distinct, records_contents, records_made, no_escape_from}
-use Rattle.frame_heap.proofs.Variables.{one_bound, same_variables, AreWordsOf, captured_words}
+use Rattle.frame_heap.proofs.Variables.{one_bound, same_variables, captured_words}
 
 -- ---- counts
 
@@ -184,13 +179,13 @@ module _ (words : Words) (sizes : Sizes) (Q : Stamped → Type 0) (l : Layout) (
       (one_address m.at m.to m.code (length m.kept) birth vs pre (heap_records ms vss) env d (least_of ms) (3 * length ms + cost) (addresses l t (words_of_records pre + words_at m.at (length m.kept)) ms rest) is outside.0 counts.0 below.0 held
       (λ some. base (omega (arith, some)))
       (λ x stamp bound.
-        subst (λ k. Performs words sizes Q (least_of ms) (3 * length ms + cost) (addresses l t k ms rest) (binding d m.to x stamp)) place
-        (addresses_perform ms vss more birth ((m.to.0, address (length s.closures + length pre) birth m.code m.at) ∷ env) (binding d m.to x stamp) cost rest is_more outside.1 counts.1 below.1 bound
-        (λ some. older_other d t m.to x below.0 ∙ base (omega (arith, some)))
-        (λ ws stamps all same.
-          next ws stamps
-          (subst (λ k. HoldsVariables sizes l g t u (with_addresses k birth ms ((m.to.0, address (length s.closures + length pre) birth m.code m.at) ∷ env)) (record d { env = ws; stamps = stamps })) number all)
-          (same ∙ older_other d t m.to x below.0)))))
+      subst (λ k. Performs words sizes Q (least_of ms) (3 * length ms + cost) (addresses l t k ms rest) (binding d m.to x stamp)) place
+      (addresses_perform ms vss more birth ((m.to.0, address (length s.closures + length pre) birth m.code m.at) ∷ env) (binding d m.to x stamp) cost rest is_more outside.1 counts.1 below.1 bound
+      (λ some. older_other d t m.to x below.0 ∙ base (omega (arith, some)))
+      (λ ws stamps all same.
+      next ws stamps
+      (subst (λ k. HoldsVariables sizes l g t u (with_addresses k birth ms ((m.to.0, address (length s.closures + length pre) birth m.code m.at) ∷ env)) (record d { env = ws; stamps = stamps })) number all)
+      (same ∙ older_other d t m.to x below.0)))))
     where
       older_other : (d : Core) (t : ℕ) (to : Var) (x : Word) → to.0 < t → kept ((Own to.0, x) ∷ d.env) (Own t) ≡ kept d.env (Own t)
       older_other d t to x lt = rw (Rattle.std.proofs.lemmas.Bool.ne_eqb to.0 t (λ eq. absurd (omega (arith, eq, lt)))) refl
@@ -222,18 +217,18 @@ module _ (words : Words) (sizes : Sizes) (Q : Stamped → Type 0) (l : Layout) (
       (heap_store_performs words sizes Q t s.store.heap start.longs.heap s.store.heap (omega arith) 1 (3 + (3 * length xs + cost)) (words_of_records pre) d done (suc (1 + (length xs + (pad + left)))) (word 0x1D) (Number 0x1D)
       (heap_stores t (suc (words_of_records pre)) (operand.Code (l.closure_entry code) ∷ []) (heap_stores t (words_of_records pre + 3) (map operand.Var xs) tail)) (subst (IsFilled d start.longs.heap s.store.heap done) left_is filled) address is (omega (arith, low)) refl
       (λ hs ls first here others.
-        heap_store_performs words sizes Q t s.store.heap start.longs.heap s.store.heap (omega arith) 0 (3 * length xs + cost) (suc (words_of_records pre)) (with_heap d hs ls) (done ++ Number 0x1D ∷ []) (1 + (length xs + (pad + left))) (operand.Code (l.closure_entry code)) (Code (l.closure_entry code))
-        (heap_stores t (words_of_records pre + 3) (map operand.Var xs) tail) first address (let k = length-append done (Number 0x1D ∷ []) in omega (arith, k, is)) (omega (arith, low)) refl
-        (λ hs' ls' second here' others'.
-          heap_vars_perform words sizes Q t s.store.heap start.longs.heap s.store.heap (omega arith) cost tail xs (captures l u vs) (words_of_records pre + 3) (with_heap d hs' ls') (((done ++ Number 0x1D ∷ []) ++ Code (l.closure_entry code) ∷ []) ++ Number 0 ∷ []) (pad + left)
-          (zeros_left 1 (length xs + (pad + left)) second) address
-          (let k = length-append done (Number 0x1D ∷ []) in let k' = length-append (done ++ Number 0x1D ∷ []) (Code (l.closure_entry code) ∷ []) in let k'' = length-append ((done ++ Number 0x1D ∷ []) ++ Code (l.closure_entry code) ∷ []) (Number 0 ∷ []) in omega (arith, k, k', k'', is))
-          (omega (arith, low)) held
-          (λ hs'' ls'' third.
-            next hs'' ls''
-            (subst (λ ws. IsFilled (with_heap d hs'' ls'') start.longs.heap s.store.heap ws left)
-            (joined_record done (Number 0x1D) (Code (l.closure_entry code)) (captures l u vs) (replicate pad (Number 0)) ∙ ap (λ ws. done ++ ws) (sym (append-nil (closure_contents l u (record { code = code; captured = vs })))))
-            (zeros_left pad left third)))))))
+      heap_store_performs words sizes Q t s.store.heap start.longs.heap s.store.heap (omega arith) 0 (3 * length xs + cost) (suc (words_of_records pre)) (with_heap d hs ls) (done ++ Number 0x1D ∷ []) (1 + (length xs + (pad + left))) (operand.Code (l.closure_entry code)) (Code (l.closure_entry code))
+      (heap_stores t (words_of_records pre + 3) (map operand.Var xs) tail) first address (let k = length-append done (Number 0x1D ∷ []) in omega (arith, k, is)) (omega (arith, low)) refl
+      (λ hs' ls' second here' others'.
+      heap_vars_perform words sizes Q t s.store.heap start.longs.heap s.store.heap (omega arith) cost tail xs (captures l u vs) (words_of_records pre + 3) (with_heap d hs' ls') (((done ++ Number 0x1D ∷ []) ++ Code (l.closure_entry code) ∷ []) ++ Number 0 ∷ []) (pad + left)
+      (zeros_left 1 (length xs + (pad + left)) second) address
+      (let k = length-append done (Number 0x1D ∷ []) in let k' = length-append (done ++ Number 0x1D ∷ []) (Code (l.closure_entry code) ∷ []) in let k'' = length-append ((done ++ Number 0x1D ∷ []) ++ Code (l.closure_entry code) ∷ []) (Number 0 ∷ []) in omega (arith, k, k', k'', is))
+      (omega (arith, low)) held
+      (λ hs'' ls'' third.
+      next hs'' ls''
+      (subst (λ ws. IsFilled (with_heap d hs'' ls'') start.longs.heap s.store.heap ws left)
+      (joined_record done (Number 0x1D) (Code (l.closure_entry code)) (captures l u vs) (replicate pad (Number 0)) ∙ ap (λ ws. done ++ ws) (sym (append-nil (closure_contents l u (record { code = code; captured = vs })))))
+      (zeros_left pad left third)))))))
   one_record (At.Frame slot) code xs vs pre d done left cost tail has count base filled is outside low next = absurd outside
   one_record At.Static code xs vs pre d done left cost tail has count base filled is outside low next =
       let n : 0 + left ≡ left = omega arith in
@@ -284,12 +279,12 @@ module _ (words : Words) (sizes : Sizes) (Q : Stamped → Type 0) (l : Layout) (
       (λ heap. let q : list_all is_lasting vs ≡ true = lasting_of m.at m.code vs heap outside.0 in (captured_words sizes l g t u env d m.kept vs held known.0 q).held) count
       (λ some. base (omega (arith, some))) (subst (IsFilled d start.longs.heap s.store.heap (front ++ written pre)) left_is filled) done_length outside.0 low
       (λ hs stamps now.
-        subst (λ k. Performs words sizes Q 0 (record_cost ms + cost) (records l t k ms rest) (with_heap d hs stamps)) place
-        (records_perform ms vss more env front (with_heap d hs stamps) left cost rest sized is_more outside.1 known.1
-        (same_variables sizes l g t u env d (with_heap d hs stamps) refl refl held) (λ some. base (omega (arith, some)))
-        (subst (λ ws. IsFilled (with_heap d hs stamps) start.longs.heap s.store.heap ws (group_words ms + left))
-        (append_assoc front (written pre) (written (with_record m.at c [])) ∙ ap (λ ws. front ++ ws) (sym (written_both pre (with_record m.at c [])))) now)
-        next)))
+      subst (λ k. Performs words sizes Q 0 (record_cost ms + cost) (records l t k ms rest) (with_heap d hs stamps)) place
+      (records_perform ms vss more env front (with_heap d hs stamps) left cost rest sized is_more outside.1 known.1
+      (same_variables sizes l g t u env d (with_heap d hs stamps) refl refl held) (λ some. base (omega (arith, some)))
+      (subst (λ ws. IsFilled (with_heap d hs stamps) start.longs.heap s.store.heap ws (group_words ms + left))
+      (append_assoc front (written pre) (written (with_record m.at c [])) ∙ ap (λ ws. front ++ ws) (sym (written_both pre (with_record m.at c [])))) now)
+      next)))
     where
       lasting_of : (at : Place) (code : ℕ) (vs : List Value) → at ≡ At.Heap → IsOutside l at code vs → list_all is_lasting vs ≡ true
       lasting_of At.Heap code vs q o = o
@@ -392,13 +387,13 @@ module _ (words : Words) (sizes : Sizes) (l : Layout) (e : Escapes) (g : Ways) (
         performs_more words sizes Q (group_cost (m ∷ ms)) (omega (arith, costs))
         (addresses_perform words sizes Q l e g t s made c h.data_held h.escapes.closures_apart room (m ∷ ms) vss [] (youngest_birth s) env d (record_cost (m ∷ ms) + 0) (records l t 0 (m ∷ ms) rest) refl outside counts below (old_variables held) base
         (λ w' stamps' bound same.
-          let variables : HoldsVariables sizes l g t behind (addressed (m ∷ ms) env s) (record d { env = w'; stamps = stamps' }) =
-          subst (λ k. HoldsVariables sizes l g t behind (with_addresses k (youngest_birth s) (m ∷ ms) env) (record d { env = w'; stamps = stamps' })) no_pre bound in
-          records_perform words sizes Q l e g t s made c h.data_held h.escapes.closures_apart room (m ∷ ms) vss [] (addressed (m ∷ ms) env s) front (record d { env = w'; stamps = stamps' }) left 0 rest front_length refl outside known variables
-          (λ some. same ∙ base some) (record { heap = started.heap; stamps = started.stamps })
-          (λ hs ls filled.
-            arrives words sizes Q
-            (λ block place moves steps spelled. inl (record { core = with_heap (record d { env = w'; stamps = stamps' }) hs ls; holds = finished w' stamps' variables hs ls filled; block = block; place = place; moves = moves; steps = steps; there = refl; spelled = spelled })))))
+        let variables : HoldsVariables sizes l g t behind (addressed (m ∷ ms) env s) (record d { env = w'; stamps = stamps' }) =
+        subst (λ k. HoldsVariables sizes l g t behind (with_addresses k (youngest_birth s) (m ∷ ms) env) (record d { env = w'; stamps = stamps' })) no_pre bound in
+        records_perform words sizes Q l e g t s made c h.data_held h.escapes.closures_apart room (m ∷ ms) vss [] (addressed (m ∷ ms) env s) front (record d { env = w'; stamps = stamps' }) left 0 rest front_length refl outside known variables
+        (λ some. same ∙ base some) (record { heap = started.heap; stamps = started.stamps })
+        (λ hs ls filled.
+        arrives words sizes Q
+        (λ block place moves steps spelled. inl (record { core = with_heap (record d { env = w'; stamps = stamps' }) hs ls; holds = finished w' stamps' variables hs ls filled; block = block; place = place; moves = moves; steps = steps; there = refl; spelled = spelled })))))
 
   full : (n : ℕ) → group_words (m ∷ ms) ≡ suc n → heap_left sizes c < 4 * suc n → Performs words sizes Q 1 (5 + group_cost (m ∷ ms)) (take_words t (suc n) (addresses l t 0 (m ∷ ms) (records l t 0 (m ∷ ms) rest))) c
   full n is lacking =

@@ -1,6 +1,6 @@
 -- Variables that are bound, and the words of those that are captured.
-use Rattle.std.proofs.Common.{◌≡◌, ℕ, ◌+◌, ◌<◌, ◌==◌, ◌&&◌, Bool, true, false, if◌then◌else◌, List, [], ◌∷◌, length, map, Option, Some, None, is_some, refl, sym, ap, ◌∙◌, subst, arith}
-use Rattle.std.specs.List.{list_all, AllByRecursion}
+use Rattle.std.proofs.Common.{◌≡◌, ℕ, ◌<◌, ◌==◌, ◌&&◌, Bool, true, false, if◌then◌else◌, List, [], ◌∷◌, Some, is_some, refl, sym, ap, ◌∙◌, subst}
+use Rattle.std.specs.List.{list_all}
 use Rattle.std.proofs.lemmas.Bool.{eq-eqb, eqb-true}
 use Rattle.t_base.specs.declared.basics.Var.{Var}
 use Rattle.word_ir.specs.Word.{Word, Number}
@@ -16,7 +16,7 @@ use Rattle.frame_words.specs.Layouts.{Layout}
 use Rattle.frame_words.specs.ValueWords.{captured_for, or_zero}
 use Rattle.frame_words.specs.Contents.{captures}
 use Rattle.frame_words.specs.Holding.{AreCaptured}
-use Rattle.frame_stacks.specs.Stacks.{Ways, StandsFor, IsLasting}
+use Rattle.frame_stacks.specs.Stacks.{Ways, StandsFor}
 use Rattle.frame_stacks.specs.Frames.{HoldsVariable, HoldsVariables}
 use Rattle.frame_pushes.proofs.Kept.{each_by}
 use Rattle.frame_heap.proofs.Filling.{HaveWords}

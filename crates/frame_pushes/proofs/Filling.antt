@@ -1,6 +1,6 @@
 -- Words that were pushed are stored one by one.
-use Rattle.std.proofs.Common.{◌≡◌, ℕ, zero, suc, ◌+◌, ◌-◌, ◌*◌, ◌/◌, ◌%◌, ◌^◌, ◌<◌, ◌≤◌, ◌⊎◌, inl, inr, Bool, true, false, List, [], ◌∷◌, ◌++◌, length, map, replicate, slice_get, slice_set, Option, Some, None, pos, refl, sym, ap, ◌∙◌, subst, arith, length-append, append_assoc, append-nil}
-use Rattle.std.proofs.lemmas.Bool.{eq-eqb, ne_eqb, lt-ltb, le-ltb, cases_eq}
+use Rattle.std.proofs.Common.{◌≡◌, ℕ, zero, suc, ◌+◌, ◌-◌, ◌*◌, ◌/◌, ◌^◌, ◌<◌, ◌≤◌, ◌⊎◌, inl, inr, Bool, true, false, List, [], ◌∷◌, ◌++◌, length, map, replicate, slice_get, slice_set, Some, pos, refl, sym, ap, ◌∙◌, subst, arith, length-append, append_assoc, append-nil}
+use Rattle.std.proofs.lemmas.Bool.{ne_eqb, lt-ltb, le-ltb, cases_eq}
 use Rattle.std.proofs.lemmas.List.{length-set, length-replicate}
 use Rattle.t_base.specs.declared.basics.Var.{Var}
 use Rattle.word_ir.specs.declared.operands.Operand.{Operand}
@@ -8,7 +8,7 @@ use Rattle.word_ir.specs.declared.operands.Operand.TheVariants as operand
 use Rattle.word_ir.specs.declared.words.WordOp.TheVariants as op
 use Rattle.word_ir.specs.declared.words.Words.{Words}
 use Rattle.word_ir.specs.Word.{Word, moved, wrap}
-use Rattle.word_ir.specs.Storage.{Sizes, Regions, STATICS_START, HEAP_START, STACK_START, long_at, with_long}
+use Rattle.word_ir.specs.Storage.{Sizes, HEAP_START, STACK_START, long_at}
 use Rattle.word_ir.specs.State.{Own, kept}
 use Rattle.word_ir.specs.State as word_state
 use Rattle.word_ir.specs.Step.{words_in}
@@ -224,8 +224,8 @@ module _ (words : Words) (sizes : Sizes) (Q : Stamped → Type 0) (k : Stack) (f
       (any_count words sizes Q 1 (3 + (3 * length xs + cost)) (Do (op.Store (operand.Slot (4 * length done)) (pos 0) (operand.Var x)) (stores (suc (length done)) (map operand.Var xs) rest)) d
       (fill_performs 0 (3 * length xs + cost) d done (operand.Var x) p.word (stores (suc (length done)) (map operand.Var xs) rest) h more held.0
       (λ filling.
-        fill_all cost rest xs ps (with_stack d (slice_set d.storage.stack (from + length done) p.word) (slice_set d.longs.stack (from + length done) stamp) (changed_at as_written d.live (length done)))
-        (done ++ put p.word p.stamp ∷ []) (suc (length done)) (let m = length-append done (put p.word p.stamp ∷ []) in omega (arith, m))
-        (subst (λ y. IsFilling k (filled (stack_of d) from (length done) p.word stamp) from count step (done ++ put p.word y ∷ [])) held.1 filling) held.2
-        (let m = length-append done (put p.word p.stamp ∷ []) in omega (arith, m, le))
-        (λ ws stamps live all. next ws stamps live (subst (IsFilling k (stack_of (with_stack d ws stamps live)) from count step) (append_assoc done (put p.word p.stamp ∷ []) ps) all))))))
+      fill_all cost rest xs ps (with_stack d (slice_set d.storage.stack (from + length done) p.word) (slice_set d.longs.stack (from + length done) stamp) (changed_at as_written d.live (length done)))
+      (done ++ put p.word p.stamp ∷ []) (suc (length done)) (let m = length-append done (put p.word p.stamp ∷ []) in omega (arith, m))
+      (subst (λ y. IsFilling k (filled (stack_of d) from (length done) p.word stamp) from count step (done ++ put p.word y ∷ [])) held.1 filling) held.2
+      (let m = length-append done (put p.word p.stamp ∷ []) in omega (arith, m, le))
+      (λ ws stamps live all. next ws stamps live (subst (IsFilling k (stack_of (with_stack d ws stamps live)) from count step) (append_assoc done (put p.word p.stamp ∷ []) ps) all))))))

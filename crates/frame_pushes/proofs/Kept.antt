@@ -2,14 +2,10 @@
 use Rattle.std.proofs.Common.{◌≡◌, ℕ, zero, suc, List, [], ◌∷◌, length, slice_get, Option, Some, None, option_map, option_and_then, refl, sym, ap, ◌∙◌, subst, arith}
 use Rattle.t_base.specs.declared.basics.Var.{Var}
 use Rattle.word_ir.specs.Storage.{Sizes}
-use Rattle.word_ir.specs.State.{Own, kept}
-use Rattle.word_ir.specs.State as word_state
-use Rattle.word_ir.specs.Word.{Word}
-use Rattle.word_ir.specs.Stamps.{Stamp}
 use Rattle.frame_ir.specs.Values.{Value, Env, value_at}
 use Rattle.frame_ir.specs.States.{State}
 use Rattle.frame_ir.specs.Arguments.{each_of, kept_values}
-use Rattle.word_trees.specs.Cores.{Core, some_stamp}
+use Rattle.word_trees.specs.Cores.{Core}
 use Rattle.frame_words.specs.Layouts.{Layout}
 use Rattle.frame_stacks.specs.Stacks.{Ways, StandsFor}
 use Rattle.frame_stacks.specs.Frames.{HoldsVariable, HoldsVariables}

@@ -1,25 +1,22 @@
 -- With a frame more, stack, escapes and variables are held.
-use Rattle.std.proofs.Common.{◌≡◌, ℕ, zero, suc, ◌+◌, ◌-◌, ◌*◌, ◌/◌, ◌%◌, ◌^◌, ◌<◌, ◌≤◌, ◌==◌, ◌||◌, Bool, true, false, if◌then◌else◌, List, [], ◌∷◌, ◌++◌, length, slice_get, Option, Some, None, is_some, refl, sym, ap, ◌∙◌, subst, arith, length-append}
+use Rattle.std.proofs.Common.{◌≡◌, ℕ, suc, ◌+◌, ◌-◌, ◌*◌, ◌/◌, ◌<◌, ◌≤◌, ◌==◌, ◌||◌, Bool, true, false, if◌then◌else◌, List, [], ◌∷◌, ◌++◌, length, slice_get, Option, Some, None, refl, sym, ap, ◌∙◌, subst, arith}
 use Rattle.std.specs.List.{AllByRecursion, list_any}
 use Rattle.std.specs.Option.{option_map_or}
 use Rattle.std.proofs.lemmas.Bool.{eq-eqb, ne_eqb, eqb-true}
 use Rattle.std.proofs.lemmas.Option.{slice_get_within}
-use Rattle.t_prim.specs.Values.{EscapeV}
 use Rattle.word_ir.specs.Word.{Word, Number, Code}
-use Rattle.word_ir.specs.Storage.{Sizes, Regions, STACK_START}
+use Rattle.word_ir.specs.Storage.{Sizes, Regions}
 use Rattle.word_ir.specs.Stamps.{Stamp, Live}
-use Rattle.frame_ir.specs.Values.{Value, Frame, Env, Closure, frame_words, value_in, kept_or, closure_in, captured_from}
-use Rattle.frame_ir.specs.States.{State, AnEscape, is_live, older_than, with_frame}
+use Rattle.frame_ir.specs.Values.{Value, Frame, Env, frame_words, kept_or}
+use Rattle.frame_ir.specs.States.{State, is_live, older_than, with_frame}
 use Rattle.frame_ir.specs.Operations.{pushed_frame}
 use Rattle.word_trees.specs.Cores.{Core, stack_left, pushing}
 use Rattle.frame_words.specs.Layouts.{Layout}
-use Rattle.frame_words.specs.ValueWords.{heap_place, val_word}
 use Rattle.frame_words.specs.Contents.{Escapes}
 use Rattle.frame_words.specs.Holding.{HoldsData}
-use Rattle.select_rows.proofs.Keeping.{get_some}
-use Rattle.frame_stacks.specs.Stacks.{Stack, Ways, stack_of, words_of_frames, frames_place, stack_address, frame_at, born_first, StandsFor, IsStored, pushed_at, IsRaised}
-use Rattle.frame_stacks.specs.Frames.{HoldsSlot, HoldsFrame, HoldsAll, HoldsFrames, HoldsEscapes, HoldsVariable, HoldsVariables, Holds, is_catch, inner_word}
-use Rattle.frame_stacks.proofs.Raising.{data_of_more, get_more, words_more, place_stays, was_live, address_stays, born_stays, stands_more, live_below, all_raised}
+use Rattle.frame_stacks.specs.Stacks.{Stack, Ways, stack_of, words_of_frames, frames_place, stack_address, frame_at, born_first, IsStored, pushed_at}
+use Rattle.frame_stacks.specs.Frames.{HoldsSlot, HoldsFrame, HoldsFrames, HoldsEscapes, HoldsVariable, Holds, is_catch, inner_word}
+use Rattle.frame_stacks.proofs.Raising.{data_of_more, get_more, words_more, address_stays, born_stays, stands_more, live_below, all_raised}
 use Rattle.frame_pushes.proofs.Filling.{Put, put, IsFilling, with_stack}
 use Rattle.frame_pushes.proofs.Kept.{AllStand, stands_at}
 

@@ -1,19 +1,17 @@
 -- The code of a Push, where the stack has room.
-use Rattle.std.proofs.Common.{◌≡◌, ℕ, zero, suc, ◌+◌, ◌-◌, ◌*◌, ◌/◌, ◌%◌, ◌^◌, ◌<◌, ◌≤◌, List, [], ◌∷◌, map, length, Some, None, pos, refl, sym, ap, ◌∙◌, subst, arith}
+use Rattle.std.proofs.Common.{◌≡◌, ℕ, ◌+◌, ◌-◌, ◌*◌, ◌/◌, ◌≤◌, List, [], ◌∷◌, map, length, Some, None, refl, ap, ◌∙◌, subst, arith}
 use Rattle.t_base.specs.declared.basics.Var.{Var}
-use Rattle.word_ir.specs.declared.operands.Operand.{Operand}
 use Rattle.word_ir.specs.declared.operands.Operand.TheVariants as operand
-use Rattle.word_ir.specs.declared.words.WordOp.TheVariants as op
 use Rattle.word_ir.specs.declared.words.Words.{Words}
-use Rattle.word_ir.specs.Word.{Word, Number, Code, wrap}
+use Rattle.word_ir.specs.Word.{Number, Code, wrap}
 use Rattle.word_ir.specs.Storage.{Sizes}
 use Rattle.word_ir.specs.Step.{words_in}
-use Rattle.word_ir.specs.Stamps.{Stamp, Stamped, birth_at, changed_at, as_written}
+use Rattle.word_ir.specs.Stamps.{Stamped, birth_at, changed_at, as_written}
 use Rattle.frame_ir.specs.Values.{Value, Env, frame_words}
 use Rattle.frame_ir.specs.States.{State}
 use Rattle.frame_ir.specs.Arguments.{kept_values}
 use Rattle.frame_ir.specs.Operations.{pushed_frame}
-use Rattle.word_trees.specs.Trees.{Tree, Do}
+use Rattle.word_trees.specs.Trees.{Tree}
 use Rattle.word_trees.specs.Cores.{Core, at, word_in, stamp_in, stack_left, pushing}
 use Rattle.word_trees.specs.Leads.{Performs}
 use Rattle.word_trees.proofs.Performing.{performs_more, arrives, push_performs}
@@ -22,13 +20,12 @@ use Rattle.frame_words.specs.Contents.{Escapes}
 use Rattle.frame_stacks.specs.Stacks.{Ways, stack_of, frames_place, stack_address, born_first}
 use Rattle.frame_stacks.specs.Frames.{HoldsAll, Holds}
 use Rattle.frame_stacks.specs.Codes.{push_frame, stores}
-use Rattle.frame_stacks.specs.Laws.{GoesOn}
 use Rattle.frame_stacks.proofs.Pops.{older_born}
 use Rattle.frame_stacks.proofs.Raising.{all_raised, place_stays}
 use Rattle.frame_pushes.specs.Laws.{Pushed}
 use Rattle.frame_pushes.proofs.Filling.{Put, put, IsFilling, with_stack, nothing_stored, fill_performs, fill_all, any_count}
 use Rattle.frame_pushes.proofs.Kept.{KeptWords, kept_words, values_count}
-use Rattle.frame_pushes.proofs.Pushed.{frame, count, more, ways, below, from, enough, top_is, pushed_held}
+use Rattle.frame_pushes.proofs.Pushed.{frame, more, ways, below, from, enough, top_is, pushed_held}
 
 module _ (words : Words) (sizes : Sizes) (l : Layout) (e : Escapes) (g : Ways) (t : ℕ) (s : State) (env : Env) (c : Core) (back size : ℕ) (kept : List Var) (vs : List Value) (rest : Tree) (h : Holds sizes l e g t s env c) (known : kept_values env kept ≡ Some vs) (short : length kept ≤ size) (room : 4 * frame_words (pushed_frame back size vs) ≤ stack_left c) where
   fits : length vs ≤ size
@@ -89,28 +86,28 @@ module _ (words : Words) (sizes : Sizes) (l : Layout) (e : Escapes) (g : Ways) (
         (any_count words sizes Q 1 (3 + (3 + (3 * length kept + 0))) (stores 0 (operand.Code (g.begins back) ∷ operand.Slot (4 * n) ∷ map operand.Var kept) rest) raised
         (fill_performs words sizes Q (stack_of c) place n step h.frames.small inside h.frames.words h.frames.stamps 1 (3 + (3 * length kept + 0)) raised [] (operand.Code (g.begins back)) (Code (g.begins back)) (stores 1 (operand.Slot (4 * n) ∷ map operand.Var kept) rest) start (omega arith) refl
         (λ filling.
-          fill_performs words sizes Q (stack_of c) place n step h.frames.small inside h.frames.words h.frames.stamps 0 (3 * length kept + 0) one (first ∷ []) (operand.Slot (4 * n)) second.word (stores 2 (map operand.Var kept) rest) filling (omega arith) next_word
-          (λ more_filling.
-            fill_all words sizes Q (stack_of c) place n step h.frames.small inside h.frames.words h.frames.stamps 0 rest kept held.puts
-            (with_stack one (Rattle.std.specs.Prelude.slice_set one.storage.stack (place + 1) second.word) (Rattle.std.specs.Prelude.slice_set one.longs.stack (place + 1) (stamp_in (words_in words sizes) one (operand.Slot (4 * n)))) (changed_at as_written one.live 1))
-            (first ∷ second ∷ []) 2 refl
-            (subst (λ y. IsFilling (stack_of c) (stack_of (with_stack one (Rattle.std.specs.Prelude.slice_set one.storage.stack (place + 1) second.word) (Rattle.std.specs.Prelude.slice_set one.longs.stack (place + 1) (stamp_in (words_in words sizes) one (operand.Slot (4 * n)))) (changed_at as_written one.live 1))) place n step (first ∷ put second.word y ∷ [])) (next_stamp filling) more_filling)
-            held.held (omega (arith, short))
-            (λ ws stamps live all.
-              arrives words sizes Q
-              (λ block at_place moves steps spelled. record {
-                step = step;
-                goes = record {
-                  core = with_stack raised ws stamps live;
-                  holds = pushed_held sizes l e g t s env c back size vs h fits room step ws stamps live held.puts all held.stand;
-                  block = block;
-                  place = at_place;
-                  moves = moves;
-                  steps = steps;
-                  there = refl;
-                  spelled = spelled;
-                };
-              }))))))
+        fill_performs words sizes Q (stack_of c) place n step h.frames.small inside h.frames.words h.frames.stamps 0 (3 * length kept + 0) one (first ∷ []) (operand.Slot (4 * n)) second.word (stores 2 (map operand.Var kept) rest) filling (omega arith) next_word
+        (λ more_filling.
+        fill_all words sizes Q (stack_of c) place n step h.frames.small inside h.frames.words h.frames.stamps 0 rest kept held.puts
+        (with_stack one (Rattle.std.specs.Prelude.slice_set one.storage.stack (place + 1) second.word) (Rattle.std.specs.Prelude.slice_set one.longs.stack (place + 1) (stamp_in (words_in words sizes) one (operand.Slot (4 * n)))) (changed_at as_written one.live 1))
+        (first ∷ second ∷ []) 2 refl
+        (subst (λ y. IsFilling (stack_of c) (stack_of (with_stack one (Rattle.std.specs.Prelude.slice_set one.storage.stack (place + 1) second.word) (Rattle.std.specs.Prelude.slice_set one.longs.stack (place + 1) (stamp_in (words_in words sizes) one (operand.Slot (4 * n)))) (changed_at as_written one.live 1))) place n step (first ∷ put second.word y ∷ [])) (next_stamp filling) more_filling)
+        held.held (omega (arith, short))
+        (λ ws stamps live all.
+        arrives words sizes Q
+        (λ block at_place moves steps spelled. record {
+          step = step;
+          goes = record {
+            core = with_stack raised ws stamps live;
+            holds = pushed_held sizes l e g t s env c back size vs h fits room step ws stamps live held.puts all held.stand;
+            block = block;
+            place = at_place;
+            moves = moves;
+            steps = steps;
+            there = refl;
+            spelled = spelled;
+          };
+        }))))))
 
   pub push_with_room : Performs words sizes Q 1 (7 + 3 * length kept) (push_frame (g.begins back) n (map operand.Var kept) rest) c
   push_with_room =

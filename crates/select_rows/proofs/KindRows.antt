@@ -69,7 +69,7 @@ fixnum_tag (EscapeV b) = refl
 differs : (n m : ℕ) → (n ≡ m → ⊥) → (n == m) ≡ false
 differs n m d = ne_eqb n m d
 
-nil_word : (l : Layout) (s : State) (v : Val) (n : ℕ) → word_for l s v ≡ Some n → (n == NIL) ≡ is_nil v
+pub nil_word : (l : Layout) (s : State) (v : Val) (n : ℕ) → word_for l s v ≡ Some n → (n == NIL) ≡ is_nil v
 nil_word l s (FixV x) n is = let g = tag_is l s (FixV x) n is in differs n 5 (λ f. absurd (omega (arith, g, f)))
 nil_word l s (CharV c) n is = let w : IsCharWord c n = char_is l s c n is in differs n 5 (λ f. absurd (omega (arith, w.word, f)))
 nil_word l s NilV n is = let w : 5 ≡ n = cc in eq-eqb n 5 (sym w)

@@ -1,0 +1,5 @@
+pub mod Passing
+pub mod Statics
+pub mod Calling
+pub mod Entering
+pub mod Applying

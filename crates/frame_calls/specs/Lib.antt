@@ -1,0 +1,3 @@
+pub mod Codes
+pub mod Calls
+pub mod Laws

@@ -1,0 +1,7 @@
+//! Writes programs of words, line by line and block by block, so that trees of lines are spelled. `specs/Drafts.antt` says what is written so far and
+//! what a call writes.
+#![tactic(auto)]
+
+mod drafts;
+
+pub use crate::drafts::Draft;
