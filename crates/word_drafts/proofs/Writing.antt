@@ -57,7 +57,7 @@ last_is words number k block at line = ap (λ x. option_map (λ b. line_in b k) 
 -- ---- a block that ends, and a new one
 
 module _ (old new : Draft) (end : WordEnd) (p : IsProper old) (h : Ends end old new) where
-  longer : length new.blocks.items ≡ length old.blocks.items + 1
+  pub longer : length new.blocks.items ≡ length old.blocks.items + 1
   longer = ap length h.blocks ∙ (length-append (slice_set old.blocks.items old.number h.block) (h.empty ∷ []) ∙ ap (λ n. n + 1) (length-set old.blocks.items old.number h.block))
 
   pub proper_ended : IsProper new

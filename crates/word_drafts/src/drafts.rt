@@ -41,14 +41,15 @@ fn set_block(blocks: &mut Vec<WordBlock>, place: u32, block: WordBlock)
 impl Draft {
     /// One line more in the block under way. The only error is the want of memory.
     pub fn line(&mut self, op: WordOp) -> Result<(), Memory>
-        ensures { OnOk result (Writes (Do op) self.old self.new) }
+        ensures written { OnOk result (Writes (Do op) self.old self.new) }
+        ensures blocks { OnOk result (self.new.blocks ≡ self.old.blocks) }
     {
         self.ops.push(op)?;
         Ok(())
     }
 
     /// The block under way ends so, and a new one without parameters is under way. The only error is the want of memory.
-    fn split(&mut self, alloc: Global, last: WordEnd) -> Result<(), Memory>
+    pub(crate) fn split(&mut self, alloc: Global, last: WordEnd) -> Result<(), Memory>
         requires { IsProper self.old }
         ensures { OnOk result (Ends last self.old self.new) }
     {
