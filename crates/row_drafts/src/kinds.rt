@@ -21,6 +21,18 @@ pub fn char_to_ascii(draft: &mut Draft, alloc: Global, a: Operand, t: u32, to: V
     Ok(())
 }
 
+/// The character of a code. The only error is the want of memory.
+pub fn ascii_to_char(draft: &mut Draft, alloc: Global, a: Operand, t: u32, to: Var) -> Result<(), Memory>
+    requires proper { IsProper draft.old }
+    ensures { OnOk result (Writes (code_at (code_of builtin.AsciiToChar) (a ∷ []) t to) draft.old draft.new) }
+{
+    draft.fixnum(alloc, a)?;
+    draft.need(alloc, Test::Below, a, Operand::Word(512), 14)?;
+    draft.make(alloc, Arith::Shift(6), a, Operand::Word(0), Var(t))?;
+    draft.make(alloc, Arith::Add, Operand::Var(Var(t)), Operand::Word(1), to)?;
+    Ok(())
+}
+
 /// Whether two characters are equal. The only error is the want of memory.
 pub fn char_eq(draft: &mut Draft, alloc: Global, a: Operand, b: Operand, t: u32, to: Var) -> Result<(), Memory>
     requires proper { IsProper draft.old }
@@ -88,5 +100,14 @@ pub fn is_fixnum(draft: &mut Draft, alloc: Global, a: Operand, to: Var) -> Resul
     ensures { OnOk result (Writes (code_at (code_of builtin.IsFixnum) (a ∷ []) 0 to) draft.old draft.new) }
 {
     draft.truth(alloc, Test::TagIs(0), a, Operand::Word(0), to)?;
+    Ok(())
+}
+
+/// Whether it is the empty list. The only error is the want of memory.
+pub fn is_null(draft: &mut Draft, alloc: Global, a: Operand, to: Var) -> Result<(), Memory>
+    requires proper { IsProper draft.old }
+    ensures { OnOk result (Writes (code_at (code_of builtin.IsNull) (a ∷ []) 0 to) draft.old draft.new) }
+{
+    draft.truth(alloc, Test::Eq, a, Operand::Word(5), to)?;
     Ok(())
 }

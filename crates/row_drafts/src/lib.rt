@@ -5,3 +5,4 @@
 pub mod data;
 pub mod kinds;
 pub mod numbers;
+pub mod puts;

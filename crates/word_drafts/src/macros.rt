@@ -1,17 +1,18 @@
 //! Checks of operands and results, in front of what is written behind them.
 
-ghost use Rattle.std.specs.Prelude.{◌≡◌, OnOk, pos};
+ghost use Rattle.std.specs.Prelude.{◌≡◌, OnOk, pos, [], ◌∷◌};
 ghost use Rattle.word_ir.specs.declared.operands.Operand.TheVariants as operand;
 ghost use Rattle.word_ir.specs.declared.words.WordOp.TheVariants as op;
 ghost use Rattle.word_ir.specs.declared.words.WordEnd.TheVariants as last;
-ghost use Rattle.select_rows.specs.Macros.{fixnum, pair, object, character, index, choose, by_test};
+ghost use Rattle.word_trees.specs.Trees.{Do};
+ghost use Rattle.select_rows.specs.Macros.{fault, fixnum, pair, object, character, index, choose, by_test};
 ghost use Rattle.select_rows.specs.Codes.{compute, make, take, unless_zero};
-ghost use Rattle.word_drafts.specs.Drafts.{IsProper, Writes};
+ghost use Rattle.word_drafts.specs.Drafts.{IsProper, Writes, unless_true};
 
 use crate::Draft;
 use std::alloc::Global;
 use t_base::{Memory, Var};
-use word_ir::{Arith, Operand, Test, WordEnd, WordOp};
+use word_ir::{Arith, Operand, Operands, Test, WordEnd, WordOp};
 
 /// The word of Nil.
 const NIL: u32 = 5;
@@ -196,6 +197,34 @@ impl Draft {
             base: PASS,
             offset: 0,
         })?;
+        Ok(())
+    }
+
+    /// Goes on where a test holds, else to the fault with a number. The only error is the want of memory.
+    pub fn need(
+        &mut self,
+        alloc: Global,
+        kind: Test,
+        a: Operand,
+        b: Operand,
+        number: u8,
+    ) -> Result<(), Memory>
+        requires { IsProper self.old }
+        ensures { OnOk result (Writes (unless_true kind a b (fault number)) self.old self.new) }
+    {
+        let exit = self.fault(alloc, number)?;
+        self.check(alloc, kind, a, b, exit)?;
+        Ok(())
+    }
+
+    /// A service with one operand. The only error is the want of memory.
+    pub fn put(&mut self, alloc: Global, number: u8, a: Operand) -> Result<(), Memory>
+        ensures { OnOk result (Writes (Do (op.Service number (a ∷ []))) self.old self.new) }
+    {
+        let mut args = Vec::new(alloc);
+        args.push(a)?;
+        let args = Operands::from_vec(args);
+        self.line(WordOp::Service { number, args })?;
         Ok(())
     }
 }
