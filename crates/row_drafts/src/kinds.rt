@@ -12,7 +12,13 @@ use word_drafts::Draft;
 use word_ir::{Arith, Operand, Test};
 
 /// The code of a character. The only error is the want of memory.
-pub fn char_to_ascii(draft: &mut Draft, alloc: Global, a: Operand, t: u32, to: Var) -> Result<(), Memory>
+pub fn char_to_ascii(
+    draft: &mut Draft,
+    alloc: Global,
+    a: Operand,
+    t: u32,
+    to: Var,
+) -> Result<(), Memory>
     requires proper { IsProper draft.old }
     ensures { OnOk result (Writes (code_at (code_of builtin.CharToAscii) (a ∷ []) t to) draft.old draft.new) }
 {
@@ -22,19 +28,38 @@ pub fn char_to_ascii(draft: &mut Draft, alloc: Global, a: Operand, t: u32, to: V
 }
 
 /// The character of a code. The only error is the want of memory.
-pub fn ascii_to_char(draft: &mut Draft, alloc: Global, a: Operand, t: u32, to: Var) -> Result<(), Memory>
+pub fn ascii_to_char(
+    draft: &mut Draft,
+    alloc: Global,
+    a: Operand,
+    t: u32,
+    to: Var,
+) -> Result<(), Memory>
     requires proper { IsProper draft.old }
     ensures { OnOk result (Writes (code_at (code_of builtin.AsciiToChar) (a ∷ []) t to) draft.old draft.new) }
 {
     draft.fixnum(alloc, a)?;
     draft.need(alloc, Test::Below, a, Operand::Word(512), 14)?;
     draft.make(alloc, Arith::Shift(6), a, Operand::Word(0), Var(t))?;
-    draft.make(alloc, Arith::Add, Operand::Var(Var(t)), Operand::Word(1), to)?;
+    draft.make(
+        alloc,
+        Arith::Add,
+        Operand::Var(Var(t)),
+        Operand::Word(1),
+        to,
+    )?;
     Ok(())
 }
 
 /// Whether two characters are equal. The only error is the want of memory.
-pub fn char_eq(draft: &mut Draft, alloc: Global, a: Operand, b: Operand, t: u32, to: Var) -> Result<(), Memory>
+pub fn char_eq(
+    draft: &mut Draft,
+    alloc: Global,
+    a: Operand,
+    b: Operand,
+    t: u32,
+    to: Var,
+) -> Result<(), Memory>
     requires proper { IsProper draft.old }
     requires few { t ≤ 4294967288 }
     ensures { OnOk result (Writes (code_at (code_of builtin.CharEq) (a ∷ b ∷ []) t to) draft.old draft.new) }
@@ -46,7 +71,14 @@ pub fn char_eq(draft: &mut Draft, alloc: Global, a: Operand, b: Operand, t: u32,
 }
 
 /// Whether the first one is less. The only error is the want of memory.
-pub fn char_lt(draft: &mut Draft, alloc: Global, a: Operand, b: Operand, t: u32, to: Var) -> Result<(), Memory>
+pub fn char_lt(
+    draft: &mut Draft,
+    alloc: Global,
+    a: Operand,
+    b: Operand,
+    t: u32,
+    to: Var,
+) -> Result<(), Memory>
     requires proper { IsProper draft.old }
     requires few { t ≤ 4294967288 }
     ensures { OnOk result (Writes (code_at (code_of builtin.CharLt) (a ∷ b ∷ []) t to) draft.old draft.new) }

@@ -34,7 +34,14 @@ pub fn sub(draft: &mut Draft, alloc: Global, a: Operand, b: Operand, to: Var) ->
 }
 
 /// Their product. The only error is the want of memory.
-pub fn mul(draft: &mut Draft, alloc: Global, a: Operand, b: Operand, t: u32, to: Var) -> Result<(), Memory>
+pub fn mul(
+    draft: &mut Draft,
+    alloc: Global,
+    a: Operand,
+    b: Operand,
+    t: u32,
+    to: Var,
+) -> Result<(), Memory>
     requires proper { IsProper draft.old }
     ensures { OnOk result (Writes (code_at (code_of builtin.Mul) (a ∷ b ∷ []) t to) draft.old draft.new) }
 {
@@ -46,7 +53,14 @@ pub fn mul(draft: &mut Draft, alloc: Global, a: Operand, b: Operand, t: u32, to:
 }
 
 /// Their quotient. The only error is the want of memory.
-pub fn quotient(draft: &mut Draft, alloc: Global, a: Operand, b: Operand, t: u32, to: Var) -> Result<(), Memory>
+pub fn quotient(
+    draft: &mut Draft,
+    alloc: Global,
+    a: Operand,
+    b: Operand,
+    t: u32,
+    to: Var,
+) -> Result<(), Memory>
     requires proper { IsProper draft.old }
     ensures { OnOk result (Writes (code_at (code_of builtin.Quotient) (a ∷ b ∷ []) t to) draft.old draft.new) }
 {
@@ -54,12 +68,24 @@ pub fn quotient(draft: &mut Draft, alloc: Global, a: Operand, b: Operand, t: u32
     draft.fixnum(alloc, b)?;
     draft.unless_zero(alloc, b)?;
     draft.make(alloc, Arith::Quotient, a, b, Var(t))?;
-    draft.number(alloc, Arith::Shift(2), Operand::Var(Var(t)), Operand::Word(0), to)?;
+    draft.number(
+        alloc,
+        Arith::Shift(2),
+        Operand::Var(Var(t)),
+        Operand::Word(0),
+        to,
+    )?;
     Ok(())
 }
 
 /// What is left by it. The only error is the want of memory.
-pub fn remainder(draft: &mut Draft, alloc: Global, a: Operand, b: Operand, to: Var) -> Result<(), Memory>
+pub fn remainder(
+    draft: &mut Draft,
+    alloc: Global,
+    a: Operand,
+    b: Operand,
+    to: Var,
+) -> Result<(), Memory>
     requires proper { IsProper draft.old }
     ensures { OnOk result (Writes (code_at (code_of builtin.Remainder) (a ∷ b ∷ []) 0 to) draft.old draft.new) }
 {
@@ -91,7 +117,13 @@ pub fn dec(draft: &mut Draft, alloc: Global, a: Operand, to: Var) -> Result<(), 
 }
 
 /// Whether two fixnums are equal. The only error is the want of memory.
-pub fn num_eq(draft: &mut Draft, alloc: Global, a: Operand, b: Operand, to: Var) -> Result<(), Memory>
+pub fn num_eq(
+    draft: &mut Draft,
+    alloc: Global,
+    a: Operand,
+    b: Operand,
+    to: Var,
+) -> Result<(), Memory>
     requires proper { IsProper draft.old }
     ensures { OnOk result (Writes (code_at (code_of builtin.NumEq) (a ∷ b ∷ []) 0 to) draft.old draft.new) }
 {
@@ -102,7 +134,13 @@ pub fn num_eq(draft: &mut Draft, alloc: Global, a: Operand, b: Operand, to: Var)
 }
 
 /// Whether the first one is less. The only error is the want of memory.
-pub fn num_lt(draft: &mut Draft, alloc: Global, a: Operand, b: Operand, to: Var) -> Result<(), Memory>
+pub fn num_lt(
+    draft: &mut Draft,
+    alloc: Global,
+    a: Operand,
+    b: Operand,
+    to: Var,
+) -> Result<(), Memory>
     requires proper { IsProper draft.old }
     ensures { OnOk result (Writes (code_at (code_of builtin.NumLt) (a ∷ b ∷ []) 0 to) draft.old draft.new) }
 {
@@ -113,7 +151,13 @@ pub fn num_lt(draft: &mut Draft, alloc: Global, a: Operand, b: Operand, to: Var)
 }
 
 /// Whether it is greater. The only error is the want of memory.
-pub fn num_gt(draft: &mut Draft, alloc: Global, a: Operand, b: Operand, to: Var) -> Result<(), Memory>
+pub fn num_gt(
+    draft: &mut Draft,
+    alloc: Global,
+    a: Operand,
+    b: Operand,
+    to: Var,
+) -> Result<(), Memory>
     requires proper { IsProper draft.old }
     ensures { OnOk result (Writes (code_at (code_of builtin.NumGt) (a ∷ b ∷ []) 0 to) draft.old draft.new) }
 {
@@ -124,7 +168,13 @@ pub fn num_gt(draft: &mut Draft, alloc: Global, a: Operand, b: Operand, to: Var)
 }
 
 /// Whether it is at most the second one. The only error is the want of memory.
-pub fn num_le(draft: &mut Draft, alloc: Global, a: Operand, b: Operand, to: Var) -> Result<(), Memory>
+pub fn num_le(
+    draft: &mut Draft,
+    alloc: Global,
+    a: Operand,
+    b: Operand,
+    to: Var,
+) -> Result<(), Memory>
     requires proper { IsProper draft.old }
     ensures { OnOk result (Writes (code_at (code_of builtin.NumLe) (a ∷ b ∷ []) 0 to) draft.old draft.new) }
 {
@@ -135,7 +185,13 @@ pub fn num_le(draft: &mut Draft, alloc: Global, a: Operand, b: Operand, to: Var)
 }
 
 /// Whether it is at least that. The only error is the want of memory.
-pub fn num_ge(draft: &mut Draft, alloc: Global, a: Operand, b: Operand, to: Var) -> Result<(), Memory>
+pub fn num_ge(
+    draft: &mut Draft,
+    alloc: Global,
+    a: Operand,
+    b: Operand,
+    to: Var,
+) -> Result<(), Memory>
     requires proper { IsProper draft.old }
     ensures { OnOk result (Writes (code_at (code_of builtin.NumGe) (a ∷ b ∷ []) 0 to) draft.old draft.new) }
 {

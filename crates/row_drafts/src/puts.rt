@@ -18,7 +18,10 @@ pub fn put_fixnum(draft: &mut Draft, alloc: Global, a: Operand, to: Var) -> Resu
 {
     draft.fixnum(alloc, a)?;
     draft.put(alloc, 2, a)?;
-    draft.line(WordOp::Move { to, from: Operand::Word(5) })?;
+    draft.line(WordOp::Move {
+        to,
+        from: Operand::Word(5),
+    })?;
     Ok(())
 }
 
@@ -29,18 +32,30 @@ pub fn put_char(draft: &mut Draft, alloc: Global, a: Operand, t: u32, to: Var) -
 {
     draft.character(alloc, a, t)?;
     draft.put(alloc, 1, a)?;
-    draft.line(WordOp::Move { to, from: Operand::Word(5) })?;
+    draft.line(WordOp::Move {
+        to,
+        from: Operand::Word(5),
+    })?;
     Ok(())
 }
 
 /// Puts the bytes of a string. The only error is the want of memory.
-pub fn put_string(draft: &mut Draft, alloc: Global, a: Operand, t: u32, to: Var) -> Result<(), Memory>
+pub fn put_string(
+    draft: &mut Draft,
+    alloc: Global,
+    a: Operand,
+    t: u32,
+    to: Var,
+) -> Result<(), Memory>
     requires proper { IsProper draft.old }
     ensures { OnOk result (Writes (code_at (code_of builtin.PutString) (a ∷ []) t to) draft.old draft.new) }
 {
     draft.object(alloc, a, 21, 13, t)?;
     draft.put(alloc, 5, a)?;
-    draft.line(WordOp::Move { to, from: Operand::Word(5) })?;
+    draft.line(WordOp::Move {
+        to,
+        from: Operand::Word(5),
+    })?;
     Ok(())
 }
 
@@ -50,6 +65,9 @@ pub fn newline(draft: &mut Draft, alloc: Global, to: Var) -> Result<(), Memory>
     ensures { OnOk result (Writes (code_at (code_of builtin.Newline) ([]) 0 to) draft.old draft.new) }
 {
     draft.put(alloc, 1, Operand::Word(2561))?;
-    draft.line(WordOp::Move { to, from: Operand::Word(5) })?;
+    draft.line(WordOp::Move {
+        to,
+        from: Operand::Word(5),
+    })?;
     Ok(())
 }

@@ -69,12 +69,7 @@ impl Draft {
     }
 
     /// A finished block behind all, and its number. The only error is the want of memory.
-    fn behind(
-        &mut self,
-        alloc: Global,
-        ops: Vec<WordOp>,
-        last: WordEnd,
-    ) -> Result<u32, Memory>
+    fn behind(&mut self, alloc: Global, ops: Vec<WordOp>, last: WordEnd) -> Result<u32, Memory>
         requires { IsProper self.old }
         ensures { IfOk result (λ place. Adds ops.items last place self.old self.new) }
     {

@@ -1,4 +1,3 @@
-use Rattle.std.proofs.Common.{rules}
 use Rattle.word_drafts.proofs.Joining.{beside_apart}
 use Rattle.word_drafts.proofs.drafts.Draft.fixnum.Goals as goal
 

@@ -1,4 +1,3 @@
-use Rattle.std.proofs.Common.{rules}
 use Rattle.word_drafts.proofs.Joining.{twice_beside}
 use Rattle.word_drafts.proofs.drafts.Draft.object.Goals as goal
 

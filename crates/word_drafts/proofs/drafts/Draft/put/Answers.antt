@@ -1,5 +1,4 @@
-use Rattle.std.proofs.Common.{rules, ◌≡◌, List, [], ◌∷◌, subst}
-use Rattle.word_ir.specs.declared.operands.Operand.{Operand}
+use Rattle.std.proofs.Common.{rules, ◌≡◌, [], ◌∷◌, subst}
 use Rattle.word_ir.specs.declared.words.WordOp.TheVariants as op
 use Rattle.word_trees.specs.Trees.{Do}
 use Rattle.word_drafts.specs.Drafts.{Writes}

@@ -1,4 +1,4 @@
-use Rattle.std.proofs.Common.{rules, ◌≡◌, ℕ, ◌+◌, length, subst}
+use Rattle.std.proofs.Common.{rules, ◌≡◌, ◌+◌, length, subst}
 use Rattle.word_trees.specs.Trees.{Do}
 use Rattle.word_drafts.specs.Drafts.{Writes, Ends}
 use Rattle.word_drafts.proofs.Joining.{truth_writes}
