@@ -2,13 +2,14 @@
 
 ghost use Rattle.std.specs.Prelude.{[], ◌∷◌, OnOk, pos};
 ghost use Rattle.word_ir.specs.declared.operands.Operand.TheVariants as operand;
+ghost use Rattle.word_ir.specs.declared.words.Test.TheVariants as test;
 ghost use Rattle.word_ir.specs.declared.words.WordOp.TheVariants as op;
-ghost use Rattle.word_trees.specs.Trees.{Do};
+ghost use Rattle.word_trees.specs.Trees.{Do, Ask};
 ghost use Rattle.t_base.specs.declared.builtins.Builtin.TheVariants as builtin;
-ghost use Rattle.select_rows.specs.Macros.{by_test, unless, is_object, choose};
+ghost use Rattle.select_rows.specs.Macros.{of_var, by_test, unless, either, is_object, choose};
 ghost use Rattle.select_rows.specs.Codes.{code_of};
 ghost use Rattle.prim_holds.specs.Operands.{code_at};
-ghost use Rattle.word_drafts.specs.Drafts.{IsProper, Writes};
+ghost use Rattle.word_drafts.specs.Drafts.{IsProper, Writes, WritesBeside};
 ghost use Rattle.truth_drafts.specs.Meetings.{Meets};
 
 use std::alloc::Global;
@@ -118,6 +119,89 @@ fn choose_object(
     draft.check(alloc, Test::Eq, Operand::Var(Var(t)), header, meet)?;
     meet_at(draft, alloc, to, meet)?;
     Ok(())
+}
+
+/// True where one of two tests holds. The only error is the want of memory.
+fn choose_either(
+    draft: &mut Draft,
+    alloc: Global,
+    a: Operand,
+    tag: u8,
+    word: u32,
+    to: Var,
+) -> Result<(), Memory>
+    requires { IsProper draft.old }
+    ensures { OnOk result (Writes (choose (either (by_test (test.TagIs tag) a (operand.Word 0)) (by_test test.Eq a (operand.Word word))) to) draft.old draft.new) }
+{
+    leave_nil(draft)?;
+    let arm = ahead(draft, 1)?;
+    let meet = ahead(draft, 2)?;
+    draft.check_not(alloc, Test::TagIs(tag), a, Operand::Word(0), arm)?;
+    draft.check(alloc, Test::Eq, a, Operand::Word(word), meet)?;
+    if draft.number != arm {
+        return Err(Memory);
+    }
+    let ops = draft.ops.len();
+    if ops != 0 {
+        return Err(Memory);
+    }
+    meet_at(draft, alloc, to, meet)?;
+    Ok(())
+}
+
+/// Goes to the block `arm` where the variable t holds a header. The only error is the want of memory.
+fn if_header(draft: &mut Draft, alloc: Global, t: u32, header: u32, arm: u32) -> Result<(), Memory>
+    requires { IsProper draft.old }
+    ensures { OnOk result (WritesBeside (Ask test.Eq (of_var t) (operand.Word header)) arm draft.old draft.new) }
+{
+    let held = Operand::Var(Var(t));
+    draft.check_not(alloc, Test::Eq, held, Operand::Word(header), arm)?;
+    Ok(())
+}
+
+/// Whether a value is what may be called. The only error is the want of memory.
+pub fn is_procedure(
+    draft: &mut Draft,
+    alloc: Global,
+    a: Operand,
+    t: u32,
+    to: Var,
+) -> Result<(), Memory>
+    requires { IsProper draft.old }
+    ensures { OnOk result (Writes (code_at (code_of builtin.IsProcedure) (a ∷ []) t to) draft.old draft.new) }
+{
+    leave_nil(draft)?;
+    let arm = ahead(draft, 6)?;
+    let meet = ahead(draft, 7)?;
+    draft.check(alloc, Test::TagIs(2), a, Operand::Word(0), meet)?;
+    draft.line(WordOp::Load {
+        to: Var(t),
+        base: a,
+        offset: -2,
+    })?;
+    if_header(draft, alloc, t, 0x1D, arm)?;
+    if_header(draft, alloc, t, 0x21, arm)?;
+    if_header(draft, alloc, t, 0x25, arm)?;
+    if_header(draft, alloc, t, 0x29, arm)?;
+    let held = Operand::Var(Var(t));
+    draft.check(alloc, Test::Eq, held, Operand::Word(0x2D), meet)?;
+    if draft.number != arm {
+        return Err(Memory);
+    }
+    let ops = draft.ops.len();
+    if ops != 0 {
+        return Err(Memory);
+    }
+    meet_at(draft, alloc, to, meet)?;
+    Ok(())
+}
+
+/// Whether a value is a list. The only error is the want of memory.
+pub fn is_list(draft: &mut Draft, alloc: Global, a: Operand, to: Var) -> Result<(), Memory>
+    requires { IsProper draft.old }
+    ensures { OnOk result (Writes (code_at (code_of builtin.IsList) (a ∷ []) 0 to) draft.old draft.new) }
+{
+    choose_either(draft, alloc, a, 3, NIL, to)
 }
 
 /// Whether a value is no pair. The only error is the want of memory.

@@ -1,5 +1,4 @@
-use Rattle.std.proofs.Common.{rules, ◌≡◌, ℕ, length}
-use Rattle.word_ir.specs.declared.words.WordOp.{WordOp}
+use Rattle.std.proofs.Common.{rules, ◌≡◌, length}
 use Rattle.truth_drafts.proofs.Joining.{meets}
 use Rattle.truth_drafts.proofs.truths.meet_at.Goals as goal
 
