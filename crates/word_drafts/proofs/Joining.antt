@@ -1,18 +1,19 @@
 -- What is written behind each other.
-use Rattle.std.proofs.Common.{◌≡◌, ℕ, ◌+◌, length, pos, sym, ap, subst, arith}
+use Rattle.std.proofs.Common.{◌≡◌, ℕ, ◌+◌, List, [], length, slice_get, pos, sym, ap, subst, arith}
 use Rattle.t_base.specs.declared.basics.Var.{Var}
 use Rattle.word_ir.specs.declared.operands.Operand.{Operand}
 use Rattle.word_ir.specs.declared.operands.Operand.TheVariants as operand
 use Rattle.word_ir.specs.declared.words.Test.{Test}
 use Rattle.word_ir.specs.declared.words.Test.TheVariants as test
+use Rattle.word_ir.specs.declared.words.WordOp.{WordOp}
 use Rattle.word_ir.specs.declared.words.WordOp.TheVariants as op
 use Rattle.word_ir.specs.declared.words.WordEnd.TheVariants as last
 use Rattle.word_ir.specs.declared.words.Words.{Words}
 use Rattle.word_drafts.specs.declared.drafts.Draft.{Draft}
 use Rattle.word_trees.specs.Trees.{Tree, Do, Ask, Spells}
 use Rattle.select_rows.specs.Macros.{word, by_test, meet, choose}
-use Rattle.word_drafts.specs.Drafts.{IsProper, Extends, SpellsNext, Writes, Ends, WritesApart, WritesBeside}
-use Rattle.word_drafts.proofs.Writing.{proper_ended, extends_ended, end_there, spelled_whole}
+use Rattle.word_drafts.specs.Drafts.{IsProper, Extends, SpellsNext, Writes, Ends, WritesApart, WritesBeside, WritesTestApart, Adds, ends_here}
+use Rattle.word_drafts.proofs.Writing.{proper_ended, extends_ended, end_there, spelled_whole, proper_added, extends_added, added_last}
 
 pub then_writes : (f g : Tree → Tree) (a b c : Draft) → Writes f a b → Writes g b c → Writes (λ rest. f (g rest)) a c
 then_writes f g a b c h k = record {
@@ -74,3 +75,31 @@ truth_writes a b c d e f how x y to first second p one two three same four five 
           one.spells words (Ask how x y (passes 9 (Ask test.Eq (word 0) (word 0) (meet to rest) (meet to rest))) (meet to rest)) at_b
           (first, second, end_there b c (last.Test how x y first second) pb two words at_c, true_arm, met);
     }
+
+-- ---- ends and tests of their own
+
+pub stop_writes : (a b : Draft) → IsProper a → Ends last.Stop a b → Writes ends_here a b
+stop_writes a b p h = record {
+  proper = λ q. proper_ended a b last.Stop p h;
+  extends = λ words x. extends_ended a b last.Stop p h words x;
+  spells = λ words rest x s. end_there a b last.Stop p h words x;
+}
+
+pub test_apart_writes : (a b : Draft) (ops : List WordOp) (kind : Test) (x y : Operand) (one other place : ℕ) → IsProper a → ops ≡ [] → Adds ops (last.Test kind x y one other) place a b → WritesTestApart kind x y one other place a b
+test_apart_writes a b ops kind x y one other place p none h = record {
+  proper = proper_added a b ops (last.Test kind x y one other) place p h;
+  extends = extends_added a b ops (last.Test kind x y one other) place p h;
+  spelled = λ words first second z k m. (one, other, added_last a b ops (last.Test kind x y one other) place p h words 0 z (ap (λ os. slice_get os 0) none), k, m);
+  same = λ words rest s. subst (λ n. Spells words n (length a.ops.items) rest) h.number (subst (λ n. Spells words b.number n rest) (ap length h.ops) s);
+}
+
+-- a test of its own, and the trees to which it leads
+pub fork_apart : (kind : Test) (x y : Operand) (first second : Tree) (one other place : ℕ) (a b c d : Draft) → WritesApart first one a b → WritesApart second other b c → WritesTestApart kind x y one other place c d → WritesApart (Ask kind x y first second) place a d
+fork_apart kind x y first second one other place a b c d h k m = record {
+  proper = m.proper;
+  extends = λ words z. h.extends words (k.extends words (m.extends words z));
+  spelled = λ words z.
+      let at_c : Extends words c = m.extends words z in
+      m.spelled words first second z (h.spelled words (k.extends words at_c)) (k.spelled words at_c);
+  same = λ words rest s. h.same words rest (k.same words rest (m.same words rest s));
+}

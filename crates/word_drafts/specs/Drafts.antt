@@ -8,6 +8,7 @@ use Rattle.word_ir.specs.declared.words.WordBlock.{WordBlock}
 use Rattle.word_ir.specs.declared.words.Words.{Words}
 use Rattle.word_ir.specs.Lines.{Op, line_at}
 use Rattle.word_trees.specs.Trees.{Tree, Ask, Spells}
+use Rattle.select_rows.specs.Macros.{never}
 use Rattle.word_drafts.specs.declared.drafts.Draft.{Draft}
 
 -- a block that is begun has its number from the first ones, or stands behind those
@@ -84,3 +85,14 @@ pub record WritesBeside (front : Tree → Tree → Tree) (other : ℕ) (old new 
 -- the other tree where a test doesn't hold
 abbrev pub unless_true : Test → Operand → Operand → Tree → Tree → Tree
 unless_true kind a b other rest = Ask kind a b rest other
+
+-- A test is written into a block of its own, where the two blocks to which it leads have trees.
+pub record WritesTestApart (kind : Test) (a b : Operand) (one other place : ℕ) (old new : Draft) : Type 0 where
+  pub proper : IsProper new
+  pub extends : (words : Words) → Extends words new → Extends words old
+  pub spelled : (words : Words) (first second : Tree) → Extends words new → Spells words one 0 first → Spells words other 0 second → Spells words place 0 (Ask kind a b first second)
+  pub same : (words : Words) (rest : Tree) → SpellsNext words new rest → SpellsNext words old rest
+
+-- whatever is behind
+abbrev pub ends_here : Tree → Tree
+ends_here rest = never

@@ -4,7 +4,7 @@ ghost use Rattle.std.specs.Prelude.{◌≡◌, ◌<◌, IfOk, OnOk, length, slic
 ghost use Rattle.word_trees.specs.Trees.{Do, Or, Ask, Compute, Take, Push};
 ghost use Rattle.select_rows.specs.Macros.{fault, never};
 ghost use Rattle.select_rows.specs.Codes.{no_heap};
-ghost use Rattle.word_drafts.specs.Drafts.{IsProper, Writes, Ends, Adds, WritesApart, WritesBeside, unless_true};
+ghost use Rattle.word_drafts.specs.Drafts.{IsProper, Writes, Ends, Adds, WritesApart, WritesBeside, WritesTestApart, unless_true, ends_here};
 
 use std::alloc::Global;
 use std::mem;
@@ -212,5 +212,38 @@ impl Draft {
             no: next,
         };
         self.split(alloc, end)
+    }
+
+    /// A block that ends with a test, without any line in front of it, and its number. The only error is the want of memory.
+    pub fn test_apart(
+        &mut self,
+        alloc: Global,
+        kind: Test,
+        a: Operand,
+        b: Operand,
+        yes: u32,
+        no: u32,
+    ) -> Result<u32, Memory>
+        requires { IsProper self.old }
+        ensures { IfOk result (λ place. WritesTestApart kind a b yes no place self.old self.new) }
+    {
+        let end = WordEnd::Test {
+            kind,
+            a,
+            b,
+            yes,
+            no,
+        };
+        let place = self.behind(alloc, Vec::new(alloc), end)?;
+        Ok(place)
+    }
+
+    /// Nothing comes behind: what is written next is reached by no run. The only error is the want of memory.
+    pub fn stop(&mut self, alloc: Global) -> Result<(), Memory>
+        requires { IsProper self.old }
+        ensures { OnOk result (Writes ends_here self.old self.new) }
+    {
+        self.split(alloc, WordEnd::Stop)?;
+        Ok(())
     }
 }
