@@ -4,16 +4,17 @@ ghost use Rattle.std.specs.Prelude.{◌≤◌, [], ◌∷◌, IfOk, OnOk};
 ghost use Rattle.t_base.specs.declared.builtins.Builtin.TheVariants as builtin;
 ghost use Rattle.word_ir.specs.declared.words.Test.TheVariants as test;
 ghost use Rattle.word_ir.specs.declared.operands.Operand.TheVariants as operand;
-ghost use Rattle.select_rows.specs.Macros.{fault};
+ghost use Rattle.word_ir.specs.declared.words.WordOp.TheVariants as op;
+ghost use Rattle.select_rows.specs.Macros.{fault, var};
 ghost use Rattle.select_rows.specs.Codes.{code_of, large_vector, small_vector};
-ghost use Rattle.word_trees.specs.Trees.{Ask};
+ghost use Rattle.word_trees.specs.Trees.{Ask, Do};
 ghost use Rattle.prim_holds.specs.Operands.{code_at};
 ghost use Rattle.word_drafts.specs.Drafts.{IsProper, Writes, WritesApart};
 
 use std::alloc::Global;
 use t_base::{Memory, Var};
 use word_drafts::Draft;
-use word_ir::{Arith, Operand, Test, WordOp};
+use word_ir::{Arith, Operand, Operands, Test, WordOp};
 
 /// Ends of runs for the three greatest fixnums, of whose vectors no heap has room. The only error is the want of memory.
 fn large(draft: &mut Draft, alloc: Global, a: Operand) -> Result<u32, Memory>
@@ -45,7 +46,13 @@ fn small(draft: &mut Draft, alloc: Global, a: Operand, t: u32, to: Var) -> Resul
 {
     draft.make(alloc, Arith::Add, a, Operand::Word(12), Var(t))?;
     let sum = Operand::Var(Var(t));
-    draft.make(alloc, Arith::And, sum, Operand::Word(4_294_967_288), Var(t + 1))?;
+    draft.make(
+        alloc,
+        Arith::And,
+        sum,
+        Operand::Word(4_294_967_288),
+        Var(t + 1),
+    )?;
     let bytes = Operand::Var(Var(t + 1));
     let full = draft.no_heap(alloc, bytes)?;
     draft.take(Var(t + 2), bytes, full)?;
@@ -81,5 +88,28 @@ pub fn make_vector(
     let exit = large(draft, alloc, a)?;
     draft.check(alloc, Test::Below, a, Operand::Word(2_147_483_636), exit)?;
     small(draft, alloc, a, t, to)?;
+    Ok(())
+}
+
+/// An error of the program with a word. The only error is the want of memory.
+fn raise(draft: &mut Draft, alloc: Global, a: Operand) -> Result<(), Memory>
+    ensures { OnOk result (Writes (Do (op.Service 3 (operand.Word 15 ∷ a ∷ []))) draft.old draft.new) }
+{
+    let mut args = Vec::new(alloc);
+    args.push(Operand::Word(15))?;
+    args.push(a)?;
+    let args = Operands::from_vec(args);
+    draft.line(WordOp::Service { number: 3, args })?;
+    Ok(())
+}
+
+/// Ends the run by the fault of the program with a fixnum; no variable is bound. The only error is the want of memory.
+pub fn error(draft: &mut Draft, alloc: Global, a: Operand) -> Result<(), Memory>
+    requires { IsProper draft.old }
+    ensures { OnOk result (Writes (code_at (code_of builtin.Error) (a ∷ []) 0 (var 0)) draft.old draft.new) }
+{
+    draft.fixnum(alloc, a)?;
+    raise(draft, alloc, a)?;
+    draft.stop(alloc)?;
     Ok(())
 }
