@@ -1,5 +1,5 @@
 // The nodes under way: each is in a part of the one around it, which waits for that part.
-ghost use Rattle.std.specs.Prelude.{◌≡◌, ◌++◌, ◌∷◌, [], List, OnOk, drop, reverse, option_map, slice_get};
+ghost use Rattle.std.specs.Prelude.{◌≡◌, ◌++◌, ◌∷◌, [], List, OnErr, OnOk, drop, reverse, option_map, slice_get};
 ghost use Rattle.core_frames.specs.Frames.{Frame, opened, waiting, is_last, NoneLeft, IsTaken};
 
 use crate::build::{Done, Fresh, NO_VARS};
@@ -166,7 +166,8 @@ impl FrameStack {
     /// One more part of the innermost node is done. The only error is the want of memory, as where there is no node, or 2^64 parts of it; then
     /// the nodes are as before.
     pub fn add_done(&mut self, done: Done) -> Result<(), Memory>
-        ensures { (f : Frame) (others : List Frame) → self.old ≡ f ∷ others → OnOk result (self.new ≡ record f { done = f.done ++ done ∷ [] } ∷ others) }
+        ensures added { (f : Frame) (others : List Frame) → self.old ≡ f ∷ others → OnOk result (self.new ≡ record f { done = f.done ++ done ∷ [] } ∷ others) }
+        ensures failed { OnErr result (self.new ≡ self.old) }
     {
         let count = self.counted.len();
         if count == 0 {

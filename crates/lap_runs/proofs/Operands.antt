@@ -35,7 +35,7 @@ homes_give t (home.Stack n) long reached has =
 pub variables_give : VariablesGive
 variables_give m labels s t v w is lt reached word =
     let at : option_map_or At (slice_get m.homes v.0) (Own v.0) ≡ At (home_of m.homes v) = ap (λ (h : Option Home). option_map_or At h (Own v.0)) (inside m.homes v.0 (home.D 0) lt) in
-    homes_give t (home_of m.homes v) (real labels w) reached (is.homes (home_of m.homes v) w (ap (held s) (sym at) ∙ word))
+    homes_give t (home_of m.homes v) (real labels w) reached (is.homes v.0 (home_of m.homes v) w (inside m.homes v.0 (home.D 0) lt) (ap (held s) (sym at) ∙ word)).0
 
 pub numbers_give : NumbersGive
 unfolding long_operand located read_long

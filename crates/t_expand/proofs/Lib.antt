@@ -7,6 +7,8 @@ pub mod KeepingLemmas
 pub mod KindLemmas
 pub mod MadeLemmas
 pub mod NamingLemmas
+pub mod OperationLemmas
+pub mod OperationTables
 pub mod QuotedLemmas
 pub mod RefusalLemmas
 pub mod ScopeLemmas
@@ -15,6 +17,7 @@ pub mod SoFarLemmas
 pub mod SpellingLemmas
 pub mod StartLemmas
 pub mod StepLemmas
+pub mod TailLemmas
 pub mod TallyLemmas
 pub mod TopLemmas
 pub mod UnitLemmas

@@ -66,19 +66,19 @@ unit_prepared trees names forms entries e tops apart s are ts = record {
   defaults = rw s.ops are.defaults;
 }
 
-pub core_made : (trees : List Tree) (names : List (List ℕ)) (start end : Expansion) (tops : List CodeTop) (bytes : ℕ) (list : FormList) (unit : UnitCore)
+pub core_made : (trees : List Tree) (names : List (List ℕ)) (start end : Expansion) (tops : List CodeTop) (list : FormList) (unit : UnitCore)
     (spans : List (List Span)) → IsText names trees → IsPrepared names trees start tops → Keeps start end
     → ((later : Shared) → IsGrown end.shared later → FormsMean (definitions_of (tops_of (map datum_of trees))) later list.forms.items list.spans.items (tops_of (map datum_of trees)))
     → ((r : Refusal) → RefusedIn (tops_of (map datum_of trees)) r → ⊥) → AreTallied list.forms.items end → end.shared.globals.items ≡ all_settled start.shared.globals.items list.forms.items
-    → IsFinished bytes end.shared list unit spans → IsCoreOf trees unit spans
-core_made trees names start end tops bytes list unit spans text p keeps meant none tallied settled f =
+    → IsFinished end.shared list unit spans → IsCoreOf trees unit spans
+core_made trees names start end tops list unit spans text p keeps meant none tallied settled f =
     let m = meant unit.shared f.grown in
     let n : FormsMean (definitions_of (tops_of (map datum_of trees))) unit.shared unit.forms.items spans (tops_of (map datum_of trees)) = rw (f.forms, f.spans_are) m in
     let same : unit.shared.names ≡ names = f.grown.names ∙ keeps.shared.names ∙ p.names_are in
     let globals : map (λ g. g.name) start.shared.globals.items ≡ map (λ g. g.name) unit.shared.globals.items =
     sym keeps.globals ∙ ap (λ l. map (λ g. g.name) l) (sym f.globals) in
     let ops : start.shared.ops.items ≡ unit.shared.ops.items = sym keeps.ops ∙ sym f.ops in
-    let parts = unit_parts trees names start end tops bytes list unit spans text p keeps none tallied settled f n in
+    let parts = unit_parts trees names start end tops list unit spans text p keeps none tallied settled f n in
     record {
       whole = whole_unit unit end.next (definitions_of (tops_of (map datum_of trees))) spans (tops_of (map datum_of trees)) parts n;
       forms = n;
@@ -129,7 +129,7 @@ outcome_refused trees (Ok y) x h f = h.1 x f.stands
 outcome_refused trees (Err faults.Memory) x h f = tt
 outcome_refused trees (Err (faults.Fault k s)) x h f = refused_alike trees (refusal k s) x h f
 
-pub outcome_bytes : (r : Made) (names : List (List ℕ)) (bytes read : ℕ) → IfOk r (λ x. x.0.shared.names ≡ names) → IfOk r (λ x. sum_by length x.0.shared.strings.items ≤ bytes)
-    → bytes ≡ read → IfOk r (λ x. sum_by length x.0.shared.names + sum_by length x.0.shared.strings.items ≤ sum_by length names + read + 2 ^ 12)
-outcome_bytes (Ok x) names bytes read n h e = let s : sum_by length x.0.shared.names ≡ sum_by length names = ap (λ l. sum_by length l) n in omega (arith, s, h, e)
-outcome_bytes (Err f) names bytes read n h e = tt
+pub outcome_bytes : (r : Made) (names : List (List ℕ)) (read : ℕ) → IfOk r (λ x. x.0.shared.names ≡ names) → IfOk r (λ x. sum_by length x.0.shared.strings.items ≤ read)
+    → IfOk r (λ x. sum_by length x.0.shared.names + sum_by length x.0.shared.strings.items ≤ sum_by length names + read + 2 ^ 12)
+outcome_bytes (Ok x) names read n h = let s : sum_by length x.0.shared.names ≡ sum_by length names = ap (λ l. sum_by length l) n in omega (arith, s, h)
+outcome_bytes (Err f) names read n h = tt

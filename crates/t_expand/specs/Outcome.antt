@@ -1,5 +1,5 @@
 -- What the expansion of a unit comes to.
-use Rattle.std.specs.Prelude.{◌≡◌, ℕ, ◌≤◌, false, not, List, [], ◌∷◌, length, map, slice_get, sum_by, Result, Ok, Err, Some, None}
+use Rattle.std.specs.Prelude.{◌≡◌, ℕ, false, not, List, [], ◌∷◌, map, slice_get, Result, Ok, Err, Some, None}
 use Rattle.std.specs.List.{filter}
 use Rattle.std.specs.Global.{Vec}
 use Rattle.t_base.specs.declared.basics.Span.{Span}
@@ -52,9 +52,8 @@ pub record IsText (names : List (List ℕ)) (trees : List Tree) : Type 0 where
   pub names_are : text.names ≡ names
 
 -- the unit of these forms and shared parts
-pub record IsFinished (bytes : ℕ) (shared : Shared) (list : FormList) (unit : UnitCore) (spans : List (List Span)) : Type 0 where
+pub record IsFinished (shared : Shared) (list : FormList) (unit : UnitCore) (spans : List (List Span)) : Type 0 where
   pub size : IsLargest unit.shared.pairs.items unit.forms.items unit.shared.size
-  pub room : sum_by length unit.shared.strings.items ≤ bytes
   pub grown : IsGrown shared unit.shared
   pub strings : unit.shared.strings.items ≡ shared.strings.items
   pub pairs : unit.shared.pairs.items ≡ shared.pairs.items

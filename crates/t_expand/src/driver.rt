@@ -1,5 +1,9 @@
 // One form becomes nodes: a stack of nodes under way, whose parts are looked at one after the other.
-ghost use Rattle.std.specs.Prelude.{◌≡◌, ◌≢◌, ◌<◌, ◌+◌, ◌^◌, ◌++◌, ◌∷◌, [], List, map, length, drop, AllPairs, IfOk, OnOk};
+ghost use Rattle.std.specs.Prelude.{◌≡◌, ◌≢◌, ◌<◌, ◌+◌, ◌^◌, ◌==◌, ◌++◌, ◌∷◌, [], ℕ, List, map, length, drop, slice_get, AllPairs, Some, IfOk, OnOk};
+ghost use Rattle.t_core.specs.declared.forms.Core.{Core as SpecCore};
+ghost use Rattle.t_core.specs.Nodes.{parts_of};
+ghost use Rattle.t_core.specs.Nodes.{Part as NodePart};
+ghost use Rattle.core_frames.specs.Building.{IsNode};
 ghost use Rattle.t_forms.specs.Data.{Datum, Name};
 ghost use Rattle.t_forms.specs.Names.{Scope as SpecScope};
 ghost use Rattle.t_forms.specs.Held.{Held, IsScope, Extends, Around};
@@ -32,8 +36,10 @@ pub struct NodeRow {
     pub parts: Vec<Part>,
 }
 
-/// Whether a part of a node stands in a tail place.
-fn is_tail_part(shape: &Shape, tail: bool, is_first: bool, is_last: bool) -> bool {
+/// Whether a part of a node stands in a tail place: the first part or another one, the last part or another one.
+fn is_tail_part(shape: &Shape, tail: bool, is_first: bool, is_last: bool) -> bool
+    ensures part { (node : SpecCore) (i : ℕ) (p : NodePart) → IsNode shape.now tail node → slice_get (parts_of node tail) i ≡ Some p → is_first ≡ (i == 0) → is_last ≡ (i + 1 == length (parts_of node tail)) → result ≡ p.tail }
+{
     match shape {
         Shape::Lambda => true,
         Shape::If => tail && !is_first,

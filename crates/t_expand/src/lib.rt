@@ -10,7 +10,6 @@ mod quoted;
 mod spans;
 mod unit;
 mod unit_all;
-mod unit_bytes;
 mod unit_top;
 
 pub use crate::fault::SyntaxFault;

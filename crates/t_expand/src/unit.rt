@@ -1,6 +1,7 @@
 //! The core of a unit, or its first refusal.
-ghost use Rattle.std.specs.Prelude.{[], ◌≡◌, ◌≢◌, ◌+◌, ◌++◌, ◌≤◌, ◌^◌, ℕ, AllPairs, true, List, length, map, sum_by, IfOk};
+ghost use Rattle.std.specs.Prelude.{[], ◌≡◌, ◌≢◌, ◌+◌, ◌++◌, ◌≤◌, ◌^◌, ℕ, AllPairs, List, length, map, sum_by, IfOk};
 ghost use Rattle.t_base.specs.declared.basics.Span.{Span};
+ghost use Rattle.t_base.specs.declared.shared_parts.OpInfo.{OpInfo};
 ghost use Rattle.t_reader.specs.Grammar.{Tree};
 ghost use Rattle.t_reader.specs.Unit.{HoldTrees, fixed_names, string_bytes};
 ghost use Rattle.t_reader.specs.Unit.{IsWhole as IsWholeText};
@@ -21,7 +22,6 @@ use crate::driver_state::{Expansion, NodeList};
 use crate::fault::SyntaxFault;
 use crate::spans::Spans;
 use crate::unit_all::FormList;
-use crate::unit_bytes::{bytes_kept, bytes_read};
 use core_size::largest;
 use std::alloc::Global;
 use t_base::{Memory, Names, Shared};
@@ -87,49 +87,27 @@ fn fault_of(refusal: Refusal) -> SyntaxFault
     }
 }
 
-/// Whether a unit has the operations of a table, and strings that fit into so many bytes. Both hold of the unit of a text: where one
-/// doesn't, the answer is want of memory.
-fn is_right(unit: &UnitCore, ops: &OpTable, bytes: u64) -> Result<bool, Memory>
-    ensures { IfOk result (λ b. b ≡ true → sum_by length unit.now.shared.strings.items ≤ bytes) }
-{
-    let kept = bytes_kept(unit.shared.strings.as_slice())?;
-    Ok(kept <= bytes && unit.shared.ops.as_slice() == ops.ops.as_slice())
-}
-
 /// The unit of forms that are made.
-fn finished(
-    expansion: Expansion,
-    list: FormList,
-    ops: &OpTable,
-    bytes: u64,
-) -> Result<(UnitCore, Vec<Spans>), Memory>
+fn finished(expansion: Expansion, list: FormList) -> Result<(UnitCore, Vec<Spans>), Memory>
     requires lower { HasLowerParts expansion.shared.pairs.items }
-    ensures { IfOk result (λ x. IsFinished bytes expansion.shared list x.0 x.1.items) }
+    ensures { IfOk result (λ x. IsFinished expansion.shared list x.0 x.1.items) }
 {
     let Expansion { alloc, shared, .. } = expansion;
     let FormList { forms, spans } = list;
     let size = largest(alloc, shared.pairs.as_slice(), forms.as_slice())?;
     let shared = Shared { size, ..shared };
-    let unit = UnitCore { shared, forms };
-    if is_right(&unit, ops, bytes)? {
-        Ok((unit, spans))
-    } else {
-        Err(Memory)
-    }
+    Ok((UnitCore { shared, forms }, spans))
 }
 
 /// The core of a unit whose forms are prepared, or its first refusal.
-fn expand_prepared(
-    prepared: Prepared,
-    ops: &OpTable,
-    bytes: u64,
-) -> Result<(UnitCore, Vec<Spans>), SyntaxFault>
+fn expand_prepared(prepared: Prepared) -> Result<(UnitCore, Vec<Spans>), SyntaxFault>
     requires nothing { AreTallied [] prepared.expansion }
     ensures outcome { (names : List (List ℕ)) (trees : List Tree) → IsText names trees → IsPrepared names trees prepared.expansion prepared.tops.items → IsOutcome trees result }
     ensures bulk { IfOk result (λ x. bulk_of x.0 ≤ 2 ^ 31) }
     ensures lower { IfOk result (λ x. HasLowerParts x.0.shared.pairs.items) }
     ensures names { (names : List (List ℕ)) (trees : List Tree) → IsPrepared names trees prepared.expansion prepared.tops.items → IfOk result (λ x. x.0.shared.names ≡ names) }
-    ensures bytes { IfOk result (λ x. sum_by length x.0.shared.strings.items ≤ bytes) }
+    ensures bytes { (names : List (List ℕ)) (trees : List Tree) (t : IsText names trees) → IsPrepared names trees prepared.expansion prepared.tops.items → IfOk result (λ x. sum_by length x.0.shared.strings.items ≤ string_bytes t.text.nodes.items) }
+    ensures table { (names : List (List ℕ)) (trees : List Tree) (table : List OpInfo) → IsText names trees → IsPrepared names trees prepared.expansion prepared.tops.items → IsTableOf names trees table → IfOk result (λ x. x.0.shared.ops.items ≡ table) }
 {
     let Prepared { expansion, tops } = prepared;
     let mut expansion = expansion;
@@ -137,7 +115,7 @@ fn expand_prepared(
     match expansion.first {
         Some(refusal) => Err(fault_of(refusal)),
         None => {
-            let made = finished(expansion, list, ops, bytes)?;
+            let made = finished(expansion, list)?;
             Ok(made)
         }
     }
@@ -146,8 +124,9 @@ fn expand_prepared(
 /// The core of a unit with the spans of its nodes, or the first refusal of the unit.
 ///
 /// The unit is whole, as `read_unit` gives it, and `ops` is what `resolve_ops` gives for it. `Ok` is a core of the data, with the spans
-/// of the data that its nodes stand for, a list for each form; it comes only where nothing is refused. `Err(Fault)` is the first refusal.
-/// `Err(Memory)` is the want of memory, and would stand for what can't arise on a text.
+/// of the data that its nodes stand for, a list for each form; it comes only where nothing is refused, and has the operations of `ops`,
+/// which aren't looked at. `Err(Fault)` is the first refusal. `Err(Memory)` is the want of memory, and would stand for what can't arise
+/// on a text.
 pub fn expand_spans(
     alloc: Global,
     unit: Unit,
@@ -162,15 +141,15 @@ pub fn expand_spans(
     ensures bulk { IfOk result (λ x. bulk_of x.0 ≤ 2 ^ 31) }
     ensures lower { IfOk result (λ x. HasLowerParts x.0.shared.pairs.items) }
     ensures bytes { IfOk result (λ x. sum_by length x.0.shared.names + sum_by length x.0.shared.strings.items ≤ sum_by length unit.names + string_bytes unit.nodes.items + 2 ^ 12) }
+    ensures table { IfOk result (λ x. x.0.shared.ops.items ≡ ops.now.ops.items) }
 {
     let Unit {
         names,
         nodes,
         forms,
     } = unit;
-    let bytes = bytes_read(nodes.as_slice())?;
     let prepared = prepare(alloc, names, nodes.as_slice(), forms.as_slice())?;
-    expand_prepared(prepared, ops, bytes)
+    expand_prepared(prepared)
 }
 
 /// The core of a unit, or the first refusal of the unit: the first half of what `expand_spans` gives, under its conditions.
@@ -184,6 +163,7 @@ pub fn expand(alloc: Global, unit: Unit, ops: &OpTable) -> Result<UnitCore, Synt
     ensures bulk { IfOk result (λ u. bulk_of u ≤ 2 ^ 31) }
     ensures lower { IfOk result (λ u. HasLowerParts u.shared.pairs.items) }
     ensures bytes { IfOk result (λ u. sum_by length u.shared.names + sum_by length u.shared.strings.items ≤ sum_by length unit.names + string_bytes unit.nodes.items + 2 ^ 12) }
+    ensures table { IfOk result (λ u. u.shared.ops.items ≡ ops.now.ops.items) }
 {
     match expand_spans(alloc, unit, ops) {
         Ok((unit, _)) => Ok(unit),

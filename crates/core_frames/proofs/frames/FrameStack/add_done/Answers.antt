@@ -2,8 +2,8 @@ use Rattle.std.proofs.Common.{◌≡◌, ◌-◌, ◌∙◌, ap, sym, reverse, l
 use Rattle.core_frames.proofs.FrameLemmas.{done_in}
 use Rattle.core_frames.proofs.frames.FrameStack.add_done.Goals as goal
 
-pub returns : goal.returns
-returns c f others e =
+pub returns-clause-added : goal.returns-clause-added
+returns-clause-added c f others e =
     let s = c.self.inside in
     let is = s.counted.ok.0 in
     let at : c.len-count.result - 1 ≡ length s.counted.items - 1 = ap (λ n. n - 1) (c.len-count.ensures ∙ is) in

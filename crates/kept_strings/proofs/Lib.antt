@@ -1,0 +1,13 @@
+pub mod Arenas
+pub mod Bytes
+pub mod BindingRows
+pub mod CallRows
+pub mod ChoiceRows
+pub mod ConstantBytes
+pub mod DoRows
+pub mod KeptRows
+pub mod NodeBytes
+pub mod PlaceRows
+pub mod RowBytes
+pub mod TextBytes
+pub mod UnitBytes
