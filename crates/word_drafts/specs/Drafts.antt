@@ -7,7 +7,7 @@ use Rattle.word_ir.specs.declared.words.WordEnd.{WordEnd}
 use Rattle.word_ir.specs.declared.words.WordBlock.{WordBlock}
 use Rattle.word_ir.specs.declared.words.Words.{Words}
 use Rattle.word_ir.specs.Lines.{Op, line_at}
-use Rattle.word_trees.specs.Trees.{Tree, Ask, Spells}
+use Rattle.word_trees.specs.Trees.{Tree, Ask, Close, Spells}
 use Rattle.select_rows.specs.Macros.{never}
 use Rattle.word_drafts.specs.declared.drafts.Draft.{Draft}
 
@@ -96,3 +96,6 @@ pub record WritesTestApart (kind : Test) (a b : Operand) (one other place : ℕ)
 -- whatever is behind
 abbrev pub ends_here : Tree → Tree
 ends_here rest = never
+
+abbrev pub ends_by : WordEnd → Tree → Tree
+ends_by end rest = Close end

@@ -4,7 +4,7 @@ ghost use Rattle.std.specs.Prelude.{◌≡◌, ◌<◌, IfOk, OnOk, length, slic
 ghost use Rattle.word_trees.specs.Trees.{Do, Or, Ask, Compute, Take, Push};
 ghost use Rattle.select_rows.specs.Macros.{fault, never};
 ghost use Rattle.select_rows.specs.Codes.{no_heap};
-ghost use Rattle.word_drafts.specs.Drafts.{IsProper, Writes, Ends, Adds, WritesApart, WritesBeside, WritesTestApart, unless_true, ends_here};
+ghost use Rattle.word_drafts.specs.Drafts.{IsProper, Writes, Ends, Adds, WritesApart, WritesBeside, WritesTestApart, unless_true, ends_here, ends_by};
 
 use std::alloc::Global;
 use std::mem;
@@ -244,6 +244,15 @@ impl Draft {
         ensures { OnOk result (Writes ends_here self.old self.new) }
     {
         self.split(alloc, WordEnd::Stop)?;
+        Ok(())
+    }
+
+    /// The block under way has an end, and an empty one is under way. The only error is the want of memory.
+    pub fn close(&mut self, alloc: Global, end: WordEnd) -> Result<(), Memory>
+        requires { IsProper self.old }
+        ensures { OnOk result (Writes (ends_by end) self.old self.new) }
+    {
+        self.split(alloc, end)?;
         Ok(())
     }
 }
