@@ -1,18 +1,17 @@
 -- The bytes of strings in static words.
-use Rattle.std.proofs.Common.{◌≡◌, ℕ, zero, suc, ◌+◌, ◌-◌, ◌*◌, ◌/◌, ◌%◌, ◌^◌, ◌<◌, ◌≤◌, List, [], ◌∷◌, ◌++◌, length, slice_get, map, Option, Some, None, is_some, option_map, option_and_then, refl, sym, ap, ◌∙◌, subst, arith}
+use Rattle.std.proofs.Common.{◌≡◌, ℕ, zero, suc, ◌+◌, ◌-◌, ◌*◌, ◌/◌, ◌%◌, ◌^◌, ◌<◌, List, [], ◌∷◌, ◌++◌, length, slice_get, map, Option, Some, is_some, refl, sym, ap, ◌∙◌, subst, arith}
 use Rattle.std.specs.Int.{w32, from_be_bytes}
 use Rattle.std.specs.List.{AllByRecursion}
 use Rattle.std.proofs.lemmas.Bool.{eq-eqb, lt-ltb}
-use Rattle.std.proofs.lemmas.Option.{slice_get_within}
 use Rattle.t_prim.specs.Values.{Text, StringV, text_of}
 use Rattle.word_faces.specs.Faces.{count_of}
 use Rattle.word_faces.specs.Operands.{string_of}
 use Rattle.word_ir.specs.Word.{Word, Number, byte_of}
-use Rattle.word_ir.specs.Storage.{Sizes, Regions, STACK_START, long_at, byte_at, bytes_at}
+use Rattle.word_ir.specs.Storage.{Sizes, Regions, long_at, byte_at, bytes_at}
 use Rattle.frame_ir.specs.States.{State}
 use Rattle.frame_words.specs.Layouts.{Layout, TextOf, packed}
 use Rattle.frame_words.specs.ValueWords.{word_for}
-use Rattle.frame_words.specs.Contents.{Escapes, fixed_contents}
+use Rattle.frame_words.specs.Contents.{Escapes}
 use Rattle.frame_words.specs.Holding.{HoldsData}
 use Rattle.frame_words.specs.Origins.{InStatics, IsRead, IsTextHeld}
 use Rattle.frame_words.proofs.Reading.{fixed_is, fixed_within}
@@ -132,9 +131,9 @@ module _ (sizes : Sizes) (l : Layout) (e : Escapes) (s : State) (storage : Regio
       let header : IsRead storage (n - 2 + 4 * 0) (Number 21) = fixed_word sizes l e s storage next output h 2 (TextOf t) n 0 (Number 21) o refl in
       let size : IsRead storage (n - 2 + 4 * 1) (Number (4 * length (l.bytes t))) = fixed_word sizes l e s storage next output h 2 (TextOf t) n 1 (Number (4 * length (l.bytes t))) o refl in
       let item : (i x : ℕ) → slice_get (l.bytes t) i ≡ Some x → byte_at (long_at storage) (n + i + 6) ≡ Some x = λ i x at.
-          let p : IsPacked (l.bytes t) i x = byte_packed (l.bytes t) i x all at in
-          let word : IsRead storage (n - 2 + 4 * suc (suc (i / 4))) (Number p.word) = fixed_word sizes l e s storage next output h 2 (TextOf t) n (suc (suc (i / 4))) (Number p.word) o (mapped_at (packed (l.bytes t)) _ (i / 4) p.word p.there) in
-          byte_from (long_at storage) (n + i + 6) (n - 2 + 4 * suc (suc (i / 4))) p.word (i % 4) word.reads (omega (arith, o.word)) (omega (arith, o.word)) ∙ ap Some p.is in
+      let p : IsPacked (l.bytes t) i x = byte_packed (l.bytes t) i x all at in
+      let word : IsRead storage (n - 2 + 4 * suc (suc (i / 4))) (Number p.word) = fixed_word sizes l e s storage next output h 2 (TextOf t) n (suc (suc (i / 4))) (Number p.word) o (mapped_at (packed (l.bytes t)) _ (i / 4) p.word p.there) in
+      byte_from (long_at storage) (n + i + 6) (n - 2 + 4 * suc (suc (i / 4))) p.word (i % 4) word.reads (omega (arith, o.word)) (omega (arith, o.word)) ∙ ap Some p.is in
       let first : n - 2 + 4 * 0 ≡ n - 2 = omega arith in
       let second : n - 2 + 4 * 1 ≡ n - 2 + 4 = omega arith in
       record {

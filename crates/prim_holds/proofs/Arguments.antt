@@ -1,6 +1,5 @@
 -- Operands of arguments hold the words of their values.
-use Rattle.std.proofs.Common.{◌≡◌, ℕ, ◌+◌, ◌*◌, ◌<◌, List, [], ◌∷◌, map, Option, Some, None, is_some, option_map, option_and_then, true, refl, sym, ap, ◌∙◌, subst, arith}
-use Rattle.t_base.specs.declared.basics.Var.{Var}
+use Rattle.std.proofs.Common.{◌≡◌, ℕ, ◌+◌, ◌*◌, Option, Some, None, is_some, option_map, option_and_then, true, refl, sym, ap, ◌∙◌, subst}
 use Rattle.t_base.specs.declared.shared_parts.Shared.{Shared}
 use Rattle.t_prim.specs.Values.{Val, FixV, CharV, NilV, TrueV, SymbolV, StringV, PairV, VectorV, ClosureV, ObjectV, OperationV, BuiltinV, EscapeV, val_of}
 use Rattle.cps_ir.specs.declared.args.Arg.{Arg}
@@ -9,20 +8,20 @@ use Rattle.word_ir.specs.declared.operands.Operand.TheVariants as operand
 use Rattle.word_ir.specs.declared.words.Words.{Words}
 use Rattle.word_ir.specs.Word.{Number}
 use Rattle.word_ir.specs.Storage.{Sizes}
-use Rattle.frame_ir.specs.Values.{Value, Lasting, InFrame, CellAt, Env, value_at, lasting_of}
+use Rattle.frame_ir.specs.Values.{Value, Lasting, InFrame, CellAt, Env, lasting_of}
 use Rattle.frame_ir.specs.States.{State, APair, AClosure}
 use Rattle.frame_ir.specs.Arguments.{value_of, lasting_value, code_of_global}
 use Rattle.word_trees.specs.Cores.{Core}
-use Rattle.frame_words.specs.Layouts.{Layout, ClosureOf, PairOf, fixed_address, fixed_place}
-use Rattle.frame_words.specs.ValueWords.{heap_place, heap_address, or_other, tagged, or_zero, word_for}
+use Rattle.frame_words.specs.Layouts.{Layout, ClosureOf, PairOf, fixed_address}
+use Rattle.frame_words.specs.ValueWords.{heap_place, or_other, tagged, or_zero, word_for}
 use Rattle.frame_words.specs.Contents.{Escapes}
 use Rattle.frame_words.specs.Origins.{InStatics}
 use Rattle.frame_words.proofs.Values.{in_statics}
 use Rattle.select_rows.specs.Kept.{Has}
-use Rattle.frame_stacks.specs.Stacks.{Ways, IsLasting}
+use Rattle.frame_stacks.specs.Stacks.{Ways}
 use Rattle.frame_stacks.specs.Frames.{HoldsVariable, Holds}
 use Rattle.frame_stacks.specs.Laws.{HasValue}
-use Rattle.prim_holds.specs.Operands.{fixed_word, named_word, IsNamed, operand_of}
+use Rattle.prim_holds.specs.Operands.{fixed_word, IsNamed, operand_of}
 
 -- ---- what is named has the same word in each state
 

@@ -1,26 +1,25 @@
 -- Frames, escapes and variables are held where a row keeps data, stack and variables.
-use Rattle.std.proofs.Common.{◌≡◌, ℕ, ◌+◌, ◌*◌, ◌/◌, ◌%◌, ◌<◌, ◌≤◌, ◌==◌, ◌||◌, nat_lt, Bool, true, false, if◌then◌else◌, List, [], ◌∷◌, ◌++◌, length, slice_get, Option, Some, None, is_some, option_map, refl, sym, ap, ◌∙◌, subst, arith}
+use Rattle.std.proofs.Common.{◌≡◌, ℕ, ◌+◌, ◌*◌, ◌==◌, ◌||◌, nat_lt, Bool, true, false, if◌then◌else◌, List, [], ◌∷◌, ◌++◌, length, Option, Some, None, is_some, refl, sym, ap, ◌∙◌, subst, arith}
 use Rattle.std.specs.List.{AllByRecursion, list_any}
 use Rattle.std.proofs.lemmas.Bool.{eq-eqb}
 use Rattle.t_prim.specs.Values.{Val, Store, FixV, CharV, NilV, TrueV, SymbolV, StringV, PairV, VectorV, ClosureV, ObjectV, OperationV, BuiltinV, EscapeV}
 use Rattle.word_ir.specs.Word.{Word, Number}
-use Rattle.word_ir.specs.Storage.{Sizes, Regions, HEAP_START, long_at, static_at}
-use Rattle.word_ir.specs.State.{Own, kept}
+use Rattle.word_ir.specs.Storage.{Sizes, Regions, HEAP_START}
 use Rattle.word_ir.specs.Stamps.{Stamp, Live}
-use Rattle.frame_ir.specs.Values.{Value, Lasting, InFrame, CellAt, Frame, Env, captured_from, value_at}
+use Rattle.frame_ir.specs.Values.{Value, Lasting, InFrame, CellAt, Frame, Env, captured_from}
 use Rattle.frame_ir.specs.States.{State, Doing, Thing, APair, AVector, AClosure, AnEscape, is_live, older_than, thing_words, with_store, new_things}
 use Rattle.word_trees.specs.Cores.{Core, some_stamp}
 use Rattle.frame_words.specs.Segments.{place_of}
-use Rattle.frame_words.specs.Layouts.{Layout, ClosureOf, INNER, fixed_place}
-use Rattle.frame_words.specs.ValueWords.{NIL, same_thing, heap_place, or_zero, val_word, word_for, captured_for}
+use Rattle.frame_words.specs.Layouts.{Layout}
+use Rattle.frame_words.specs.ValueWords.{same_thing, heap_place, or_zero, val_word, word_for, captured_for}
 use Rattle.frame_words.specs.Contents.{Escapes}
 use Rattle.frame_words.specs.Holding.{HoldsData}
 use Rattle.frame_words.specs.Origins.{OnHeap}
 use Rattle.frame_words.proofs.Segments.{missed, later_place}
 use Rattle.frame_words.proofs.Values.{on_heap}
 use Rattle.select_rows.specs.Kept.{Keeps}
-use Rattle.frame_stacks.specs.Stacks.{Stack, Ways, stack_of, frames_place, frame_at, StandsFor, IsStored}
-use Rattle.frame_stacks.specs.Frames.{HoldsSlot, HoldsFrame, HoldsAll, HoldsFrames, HoldsEscapes, HoldsVariable, HoldsVariables, Holds, is_catch, inner_word}
+use Rattle.frame_stacks.specs.Stacks.{Stack, Ways, stack_of, frames_place, StandsFor}
+use Rattle.frame_stacks.specs.Frames.{HoldsSlot, HoldsFrame, HoldsAll, HoldsFrames, HoldsEscapes, HoldsVariable, Holds, is_catch, inner_word}
 
 -- ---- what isn't found isn't found among more
 

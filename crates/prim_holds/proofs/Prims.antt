@@ -1,5 +1,5 @@
 -- What the code of a builtin comes to.
-use Rattle.std.proofs.Common.{◌≡◌, ℕ, suc, ◌+◌, ◌-◌, ◌*◌, ◌<◌, ◌≤◌, ◌⊎◌, inl, inr, List, [], ◌∷◌, length, map, Option, Some, None, option_map, option_and_then, refl, sym, ap, ◌∙◌, subst, arith}
+use Rattle.std.proofs.Common.{◌≡◌, ℕ, ◌<◌, inl, inr, List, [], ◌∷◌, length, map, Option, Some, None, option_map, option_and_then, refl, sym, ap, ◌∙◌, subst, arith}
 use Rattle.t_base.specs.declared.basics.Var.{Var}
 use Rattle.t_base.specs.declared.builtins.Builtin.{Builtin}
 use Rattle.t_base.specs.declared.builtins.Builtin.TheVariants as builtin
@@ -7,11 +7,10 @@ use Rattle.t_base.specs.declared.shared_parts.Shared.{Shared}
 use Rattle.t_prim.specs.Values.{Val}
 use Rattle.t_prim.specs.Operands.{Row, Gives, Changes, Faults}
 use Rattle.t_prim.specs.Table.{row, arity_of}
-use Rattle.program_runs.specs.Follows.{after}
 use Rattle.cps_ir.specs.declared.args.Arg.{Arg}
 use Rattle.word_ir.specs.declared.words.Words.{Words}
 use Rattle.word_ir.specs.Word.{Number}
-use Rattle.word_ir.specs.Storage.{Sizes, HEAP_START}
+use Rattle.word_ir.specs.Storage.{Sizes}
 use Rattle.word_ir.specs.Stamps.{Stamped}
 use Rattle.frame_ir.specs.Values.{Lasting, Env}
 use Rattle.frame_ir.specs.States.{State, with_store}
@@ -29,7 +28,7 @@ use Rattle.frame_stacks.specs.Frames.{Holds}
 use Rattle.frame_stacks.specs.Laws.{GoesOn}
 use Rattle.frame_stacks.proofs.Gets.{binding_held}
 use Rattle.prim_holds.specs.Operands.{IsNamed, AreNamed, operand_of, code_at, cost_of, operands_of}
-use Rattle.prim_holds.specs.Laws.{IsFaulted, IsOutOfRoom, PrimComes}
+use Rattle.prim_holds.specs.Laws.{IsOutOfRoom, PrimComes}
 use Rattle.prim_holds.proofs.Keeping.{store_kept, state_kept}
 use Rattle.prim_holds.proofs.Arguments.{lasting_has}
 

@@ -1,6 +1,6 @@
 -- What the code of a builtin comes to, where a state of code with frames is held.
-use Rattle.std.specs.Prelude.{◌≡◌, ℕ, ◌+◌, ◌*◌, ◌<◌, ◌⊎◌, List, ◌∷◌, length, map, Option, Some, None, false}
-use Rattle.program_runs.specs.Runs.{End, Faulted, Full}
+use Rattle.std.specs.Prelude.{◌≡◌, ℕ, ◌+◌, ◌*◌, ◌<◌, ◌⊎◌, List, ◌∷◌, length, map, Some, false}
+use Rattle.program_runs.specs.Runs.{Faulted, Full}
 use Rattle.t_base.specs.declared.basics.Var.{Var}
 use Rattle.t_base.specs.declared.builtins.Builtin.{Builtin}
 use Rattle.t_base.specs.declared.faults.Fault.{Fault}
@@ -13,13 +13,12 @@ use Rattle.word_ir.specs.declared.words.Words.{Words}
 use Rattle.word_ir.specs.Storage.{Sizes}
 use Rattle.word_ir.specs.Stamps.{Stamped}
 use Rattle.frame_ir.specs.Values.{Value, Lasting, Env}
-use Rattle.frame_ir.specs.States.{State, Doing, Thing, AnEscape, AClosure, with_store}
+use Rattle.frame_ir.specs.States.{State, Doing, with_store}
 use Rattle.frame_ir.specs.Arguments.{value_of, lasting_values}
 use Rattle.word_trees.specs.Trees.{Tree}
 use Rattle.word_trees.specs.Cores.{Core, ended}
 use Rattle.word_trees.specs.Leads.{Performs}
 use Rattle.frame_words.specs.Layouts.{Layout}
-use Rattle.frame_words.specs.ValueWords.{heap_place}
 use Rattle.frame_words.specs.Contents.{Escapes}
 use Rattle.frame_words.specs.Holding.{HoldsData}
 use Rattle.select_rows.specs.Kept.{Keeps}

@@ -1,5 +1,5 @@
 -- The row that makes a vector.
-use Rattle.std.proofs.Common.{◌≡◌, ℕ, zero, suc, ◌+◌, ◌-◌, ◌*◌, ◌/◌, ◌%◌, ◌^◌, ◌<◌, ◌≤◌, ◌==◌, nat_lt, Bool, true, false, List, [], ◌∷◌, ◌++◌, length, replicate, slice_get, slice_set, Some, None, is_some, option_map, ℤ, pos, negsuc, inl, inr, refl, sym, ap, ◌∙◌, subst, arith, length-append, append-nil}
+use Rattle.std.proofs.Common.{◌≡◌, ℕ, zero, suc, ◌+◌, ◌-◌, ◌*◌, ◌/◌, ◌%◌, ◌^◌, ◌<◌, ◌≤◌, ◌==◌, nat_lt, Bool, true, false, List, [], ◌∷◌, ◌++◌, length, replicate, slice_get, slice_set, Some, None, option_map, ℤ, pos, negsuc, inl, inr, refl, sym, ap, ◌∙◌, subst, arith, length-append, append-nil}
 use Rattle.std.specs.List.{flat_map, AllByRecursion}
 use Rattle.std.specs.Option.{option_map_or}
 use Rattle.std.proofs.lemmas.Bool.{lt-ltb, le-ltb, ltb-true, ltb-false, ne_eqb, eqb-true, eqb-false, cases_lt}
@@ -19,10 +19,9 @@ use Rattle.word_ir.specs.declared.words.Test.TheVariants as test
 use Rattle.word_ir.specs.declared.words.WordOp.TheVariants as op
 use Rattle.word_ir.specs.declared.words.Words.{Words}
 use Rattle.word_ir.specs.Word.{Word, Number, moved, wrap}
-use Rattle.word_ir.specs.Storage.{Sizes, Regions, HEAP_START, STACK_START, long_at}
+use Rattle.word_ir.specs.Storage.{Sizes, Regions, HEAP_START, long_at}
 use Rattle.word_ir.specs.Computing as computing
 use Rattle.word_ir.specs.Computing.{computed, compared}
-use Rattle.word_ir.specs.State.{Own, kept}
 use Rattle.word_ir.specs.Step.{words_in}
 use Rattle.word_ir.specs.Stamps.{Stamp}
 use Rattle.frame_ir.specs.States.{State, Thing, APair, AVector, AClosure, AnObject, AnEscape, ACell, with_store, new_things, thing_words}
@@ -44,9 +43,9 @@ use Rattle.frame_words.proofs.Identity.{thing_symmetric}
 use Rattle.frame_words.proofs.Sizes.{thing_sized, thing_same}
 use Rattle.frame_words.proofs.Reading.{heap_long, heap_within}
 use Rattle.frame_words.proofs.Growing.{words_stay, data_grow, distinct_more, sizes_stay, total_alike}
-use Rattle.select_rows.specs.Macros.{fixnum, fault, var, of_var, word, never}
-use Rattle.select_rows.specs.Kept.{IsOlder, Has, Keeps, Binds}
-use Rattle.select_rows.specs.Codes.{code_of, IsCodeOf, make, no_heap, small_vector, large_vector, make_vector, LARGE, EIGHTS}
+use Rattle.select_rows.specs.Macros.{fault, var, of_var, word, never}
+use Rattle.select_rows.specs.Kept.{IsOlder, Keeps, Binds}
+use Rattle.select_rows.specs.Codes.{code_of, IsCodeOf, make, no_heap, small_vector, large_vector, LARGE, EIGHTS}
 use Rattle.select_rows.proofs.Keeping.{keeps_same, keeps_binds, binds_one, binds_then, bound_word, has_binds, may_reach, older_kept, newest_kept, get_set_other, get_some}
 use Rattle.select_rows.proofs.Checks.{fault_performs}
 use Rattle.select_rows.proofs.Results.{performs}

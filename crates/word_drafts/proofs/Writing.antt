@@ -1,8 +1,7 @@
 -- What is written is spelled.
-use Rattle.std.proofs.Common.{◌≡◌, ℕ, zero, suc, ◌+◌, ◌<◌, ◌≤◌, ◌⊎◌, inl, inr, List, [], ◌∷◌, ◌++◌, length, slice_get, slice_set, Option, Some, None, option_map, refl, sym, ap, ◌∙◌, subst, arith, length-append}
+use Rattle.std.proofs.Common.{◌≡◌, ℕ, zero, suc, ◌+◌, ◌<◌, inl, inr, List, [], ◌∷◌, ◌++◌, length, slice_get, slice_set, Some, None, option_map, refl, sym, ap, ◌∙◌, subst, arith, length-append}
 use Rattle.std.specs.Option.{option_map_or}
 use Rattle.std.proofs.lemmas.List.{length-set}
-use Rattle.std.proofs.lemmas.Option.{slice_get_within}
 use Rattle.word_ir.specs.declared.operands.Operand.{Operand}
 use Rattle.word_ir.specs.declared.words.WordOp.{WordOp}
 use Rattle.word_ir.specs.declared.words.WordOp.TheVariants as op
@@ -13,7 +12,7 @@ use Rattle.word_ir.specs.declared.words.Words.{Words}
 use Rattle.word_ir.specs.Lines.{Op, Last, line_in, line_at}
 use Rattle.word_drafts.specs.declared.drafts.Draft.{Draft}
 use Rattle.word_trees.specs.Trees.{Tree, Do, Close, Spells}
-use Rattle.word_drafts.specs.Drafts.{IsBegun, IsProper, IsDone, Extends, SpellsNext, Ends, Adds, WritesApart}
+use Rattle.word_drafts.specs.Drafts.{IsBegun, IsProper, Extends, SpellsNext, Ends, Adds, WritesApart}
 
 -- ---- lists
 
@@ -57,7 +56,7 @@ last_is words number k block at line = ap (λ x. option_map (λ b. line_in b k) 
 -- ---- a block that ends, and a new one
 
 module _ (old new : Draft) (end : WordEnd) (p : IsProper old) (h : Ends end old new) where
-  longer : length new.blocks.items ≡ length old.blocks.items + 1
+  pub longer : length new.blocks.items ≡ length old.blocks.items + 1
   longer = ap length h.blocks ∙ (length-append (slice_set old.blocks.items old.number h.block) (h.empty ∷ []) ∙ ap (λ n. n + 1) (length-set old.blocks.items old.number h.block))
 
   pub proper_ended : IsProper new

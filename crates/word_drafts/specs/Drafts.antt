@@ -1,6 +1,5 @@
 -- What is written so far of a program of words, and what a call writes.
-use Rattle.std.specs.Prelude.{◌≡◌, ℕ, ◌+◌, ◌<◌, ◌≤◌, ◌⊎◌, List, [], ◌∷◌, ◌++◌, length, slice_get, slice_set, Some}
-use Rattle.t_base.specs.declared.basics.Var.{Var}
+use Rattle.std.specs.Prelude.{◌≡◌, ℕ, ◌<◌, ◌≤◌, ◌⊎◌, List, [], ◌∷◌, ◌++◌, length, slice_get, slice_set, Some}
 use Rattle.word_ir.specs.declared.operands.Operand.{Operand}
 use Rattle.word_ir.specs.declared.words.Test.{Test}
 use Rattle.word_ir.specs.declared.words.WordOp.{WordOp}
@@ -8,7 +7,8 @@ use Rattle.word_ir.specs.declared.words.WordEnd.{WordEnd}
 use Rattle.word_ir.specs.declared.words.WordBlock.{WordBlock}
 use Rattle.word_ir.specs.declared.words.Words.{Words}
 use Rattle.word_ir.specs.Lines.{Op, line_at}
-use Rattle.word_trees.specs.Trees.{Tree, Ask, Spells}
+use Rattle.word_trees.specs.Trees.{Tree, Ask, Close, Spells}
+use Rattle.select_rows.specs.Macros.{never}
 use Rattle.word_drafts.specs.declared.drafts.Draft.{Draft}
 
 -- a block that is begun has its number from the first ones, or stands behind those
@@ -85,3 +85,17 @@ pub record WritesBeside (front : Tree → Tree → Tree) (other : ℕ) (old new 
 -- the other tree where a test doesn't hold
 abbrev pub unless_true : Test → Operand → Operand → Tree → Tree → Tree
 unless_true kind a b other rest = Ask kind a b rest other
+
+-- A test is written into a block of its own, where the two blocks to which it leads have trees.
+pub record WritesTestApart (kind : Test) (a b : Operand) (one other place : ℕ) (old new : Draft) : Type 0 where
+  pub proper : IsProper new
+  pub extends : (words : Words) → Extends words new → Extends words old
+  pub spelled : (words : Words) (first second : Tree) → Extends words new → Spells words one 0 first → Spells words other 0 second → Spells words place 0 (Ask kind a b first second)
+  pub same : (words : Words) (rest : Tree) → SpellsNext words new rest → SpellsNext words old rest
+
+-- whatever is behind
+abbrev pub ends_here : Tree → Tree
+ends_here rest = never
+
+abbrev pub ends_by : WordEnd → Tree → Tree
+ends_by end rest = Close end

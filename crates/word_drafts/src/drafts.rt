@@ -4,7 +4,7 @@ ghost use Rattle.std.specs.Prelude.{◌≡◌, ◌<◌, IfOk, OnOk, length, slic
 ghost use Rattle.word_trees.specs.Trees.{Do, Or, Ask, Compute, Take, Push};
 ghost use Rattle.select_rows.specs.Macros.{fault, never};
 ghost use Rattle.select_rows.specs.Codes.{no_heap};
-ghost use Rattle.word_drafts.specs.Drafts.{IsProper, Writes, Ends, Adds, WritesApart, WritesBeside, unless_true};
+ghost use Rattle.word_drafts.specs.Drafts.{IsProper, Writes, Ends, Adds, WritesApart, WritesBeside, WritesTestApart, unless_true, ends_here, ends_by};
 
 use std::alloc::Global;
 use std::mem;
@@ -41,14 +41,15 @@ fn set_block(blocks: &mut Vec<WordBlock>, place: u32, block: WordBlock)
 impl Draft {
     /// One line more in the block under way. The only error is the want of memory.
     pub fn line(&mut self, op: WordOp) -> Result<(), Memory>
-        ensures { OnOk result (Writes (Do op) self.old self.new) }
+        ensures written { OnOk result (Writes (Do op) self.old self.new) }
+        ensures blocks { OnOk result (self.new.blocks ≡ self.old.blocks) }
     {
         self.ops.push(op)?;
         Ok(())
     }
 
     /// The block under way ends so, and a new one without parameters is under way. The only error is the want of memory.
-    fn split(&mut self, alloc: Global, last: WordEnd) -> Result<(), Memory>
+    pub(crate) fn split(&mut self, alloc: Global, last: WordEnd) -> Result<(), Memory>
         requires { IsProper self.old }
         ensures { OnOk result (Ends last self.old self.new) }
     {
@@ -68,12 +69,7 @@ impl Draft {
     }
 
     /// A finished block behind all, and its number. The only error is the want of memory.
-    fn behind(
-        &mut self,
-        alloc: Global,
-        ops: Vec<WordOp>,
-        last: WordEnd,
-    ) -> Result<u32, Memory>
+    fn behind(&mut self, alloc: Global, ops: Vec<WordOp>, last: WordEnd) -> Result<u32, Memory>
         requires { IsProper self.old }
         ensures { IfOk result (λ place. Adds ops.items last place self.old self.new) }
     {
@@ -216,5 +212,47 @@ impl Draft {
             no: next,
         };
         self.split(alloc, end)
+    }
+
+    /// A block that ends with a test, without any line in front of it, and its number. The only error is the want of memory.
+    pub fn test_apart(
+        &mut self,
+        alloc: Global,
+        kind: Test,
+        a: Operand,
+        b: Operand,
+        yes: u32,
+        no: u32,
+    ) -> Result<u32, Memory>
+        requires { IsProper self.old }
+        ensures { IfOk result (λ place. WritesTestApart kind a b yes no place self.old self.new) }
+    {
+        let end = WordEnd::Test {
+            kind,
+            a,
+            b,
+            yes,
+            no,
+        };
+        let place = self.behind(alloc, Vec::new(alloc), end)?;
+        Ok(place)
+    }
+
+    /// Nothing comes behind: what is written next is reached by no run. The only error is the want of memory.
+    pub fn stop(&mut self, alloc: Global) -> Result<(), Memory>
+        requires { IsProper self.old }
+        ensures { OnOk result (Writes ends_here self.old self.new) }
+    {
+        self.split(alloc, WordEnd::Stop)?;
+        Ok(())
+    }
+
+    /// The block under way has an end, and an empty one is under way. The only error is the want of memory.
+    pub fn close(&mut self, alloc: Global, end: WordEnd) -> Result<(), Memory>
+        requires { IsProper self.old }
+        ensures { OnOk result (Writes (ends_by end) self.old self.new) }
+    {
+        self.split(alloc, end)?;
+        Ok(())
     }
 }

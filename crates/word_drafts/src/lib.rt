@@ -3,5 +3,6 @@
 #![tactic(auto)]
 
 mod drafts;
+mod macros;
 
 pub use crate::drafts::Draft;

@@ -1,5 +1,4 @@
-use Rattle.std.proofs.Common.{rules, ◌≡◌, ℕ, List, [], ◌∷◌, ◌++◌, length, refl}
-use Rattle.word_drafts.specs.Drafts.{Adds}
+use Rattle.std.proofs.Common.{rules, refl}
 use Rattle.word_drafts.proofs.drafts.Draft.behind.Goals as goal
 
 pub returns : goal.returns

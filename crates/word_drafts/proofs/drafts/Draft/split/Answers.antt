@@ -1,6 +1,4 @@
-use Rattle.std.proofs.Common.{rules, ◌≡◌, ℕ, List, [], ◌∷◌, ◌++◌, length, slice_set, ap, sym, ◌∙◌, refl}
-use Rattle.word_ir.specs.declared.words.WordBlock.{WordBlock}
-use Rattle.word_drafts.specs.Drafts.{Ends}
+use Rattle.std.proofs.Common.{rules, ◌≡◌, length, refl}
 use Rattle.word_drafts.proofs.drafts.Draft.split.Goals as goal
 
 pub returns : goal.returns

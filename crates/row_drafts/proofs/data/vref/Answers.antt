@@ -1,0 +1,11 @@
+use Rattle.word_drafts.proofs.Joining.{then_writes}
+use Rattle.row_drafts.proofs.data.vref.Goals as goal
+
+pub returns : goal.returns
+returns c =
+    then_writes _ _ c.args.draft.now c.object.new.self c.line-2.new.self c.in_ok-object.ensures
+    (then_writes _ _ c.object.new.self c.fixnum.new.self c.line-2.new.self c.in_ok-fixnum.ensures
+    (then_writes _ _ c.fixnum.new.self c.line.new.self c.line-2.new.self c.in_ok-line.ensures.written
+    (then_writes _ _ c.line.new.self c.index.new.self c.line-2.new.self c.in_ok-index.ensures
+    (then_writes _ _ c.index.new.self c.make.new.self c.line-2.new.self c.in_ok-make.ensures
+    (c.in_ok-line-2.ensures.written)))))

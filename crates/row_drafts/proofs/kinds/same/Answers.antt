@@ -1,0 +1,5 @@
+use Rattle.row_drafts.proofs.kinds.same.Goals as goal
+
+pub returns : goal.returns
+returns c =
+    c.in_ok-truth.ensures

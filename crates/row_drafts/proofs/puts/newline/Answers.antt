@@ -1,0 +1,7 @@
+use Rattle.word_drafts.proofs.Joining.{then_writes}
+use Rattle.row_drafts.proofs.puts.newline.Goals as goal
+
+pub returns : goal.returns
+returns c =
+    then_writes _ _ c.args.draft.now c.put.new.self c.line.new.self c.in_ok-put.ensures
+    (c.in_ok-line.ensures.written)

@@ -1,0 +1,8 @@
+use Rattle.word_drafts.proofs.Joining.{then_writes}
+use Rattle.row_drafts.proofs.puts.put_string.Goals as goal
+
+pub returns : goal.returns
+returns c =
+    then_writes _ _ c.args.draft.now c.object.new.self c.line.new.self c.in_ok-object.ensures
+    (then_writes _ _ c.object.new.self c.put.new.self c.line.new.self c.in_ok-put.ensures
+    (c.in_ok-line.ensures.written))
