@@ -5,3 +5,4 @@ pub mod Handing
 pub mod Laying
 pub mod Walking
 pub mod Fetching
+pub mod Finishing

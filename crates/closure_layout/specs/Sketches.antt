@@ -152,3 +152,6 @@ pub record Leads (w : Tables) (cps : Cps) (old new : Work) (line : Line) (P : Sk
 -- which procedures stand first is known
 abbrev pub KnowsFirst : Cps → Tables → Type 0
 KnowsFirst cps w = w.first ≡ first_lams cps
+
+abbrev pub NeedsAreSmall : Cps → Tables → Type 0
+NeedsAreSmall cps w = (l : ℕ) → length (lam_needs w l) ≤ cps.shared.size

@@ -1,5 +1,5 @@
 -- What the parts of a block owe to the whole: closures, arguments, frames and jumps.
-use Rattle.std.specs.Prelude.{◌≡◌, ℕ, ◌+◌, ◌<◌, ◌≤◌, nat_lt, Bool, true, false, List, [], ◌∷◌, ◌++◌, length, slice_get, Option, Some, None}
+use Rattle.std.specs.Prelude.{◌≡◌, ℕ, ◌+◌, ◌<◌, ◌≤◌, nat_lt, Bool, true, false, List, [], ◌∷◌, ◌++◌, length, slice_get, IsSomeAnd, Option, Some, None}
 use Rattle.std.specs.List.{AllByRecursion}
 use Rattle.t_base.specs.declared.basics.Var.{Var}
 use Rattle.t_base.specs.declared.shared_parts.Shared.{Shared}
@@ -27,7 +27,7 @@ use Rattle.closure_layout.specs.declared.lines.Line.{Line}
 use Rattle.closure_layout.specs.declared.lines.Step.{Step}
 use Rattle.closure_layout.specs.declared.frames.Waiting.{Waiting}
 use Rattle.closure_layout.specs.Around.{Around}
-use Rattle.closure_layout.specs.Sketches.{Scoped, AreBelow, Ever, Grows, Leads, lam_needs, sketch_of, context_at, context_of, exits_at, catches_of, needs_behind, is_celled, rank_of, purpose_of, counted}
+use Rattle.closure_layout.specs.Sketches.{Scoped, AreBelow, Ever, Grows, Leads, lam_needs, sketch_of, context_at, context_of, exits_at, catches_of, needs_behind, is_celled, rank_of, purpose_of, purposes_of, counted}
 use Rattle.closure_layout.specs.declared.blocks.OpenScope.{OpenScope}
 
 -- ---- closures and arguments
@@ -202,3 +202,15 @@ pub record IsCallable (cps : Cps) (w : Tables) (params needs : List Var) : Type 
   pub distinct : AreDistinct (numbers params)
   pub apart : AreApart w params needs
   pub few : length needs ≤ most_needs cps
+
+-- ---- the whole
+
+-- a block for each request
+pub record AreLaid (cps : Cps) (w : Tables) (old new : Work) (blocks : List Block) : Type 0 where
+  pub grows : Grows w old new
+  pub count : length new.requests.items ≡ length blocks
+  pub fits : (k : ℕ) (purpose : Purpose) → slice_get (purposes_of w new.requests.items) k ≡ Some purpose → IsSomeAnd (slice_get blocks k) (λ b. Ever w new (λ v. BlockFits cps v purpose b))
+
+-- the codes of the procedures that stand first
+abbrev pub StandFirst : Tables → ℕ → List Request → Type 0
+StandFirst w n requests = (length requests ≡ n) × ((l : ℕ) → l < n → (slice_get requests l ≡ Some (For.CodeOf l)) × (lam_needs w l ≡ []))

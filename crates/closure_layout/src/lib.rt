@@ -8,9 +8,13 @@ mod catches;
 mod cells;
 mod frames;
 mod giving;
+mod layouts;
 mod lines;
+mod needs;
 mod requests;
 mod scopes;
 mod sites;
 mod tables;
 mod terms;
+
+pub use crate::layouts::layout;
