@@ -1,14 +1,13 @@
 -- Lists of variables, and of what is held.
-use Rattle.std.proofs.Common.{◌≡◌, ℕ, zero, suc, ◌+◌, ◌-◌, ◌<◌, ◌≤◌, ◌==◌, Bool, true, false, ◌||◌, ◌&&◌, List, [], ◌∷◌, ◌++◌, length, map, take, drop, reverse, get_or, slice_get, Some, None, refl, sym, ap, subst, ◌∙◌, arith, min, if◌then◌else◌}
+use Rattle.std.proofs.Common.{◌≡◌, ℕ, zero, suc, ◌+◌, ◌<◌, ◌≤◌, ◌==◌, Bool, true, false, ◌||◌, List, [], ◌∷◌, ◌++◌, length, map, take, drop, reverse, get_or, Some, None, refl, sym, ap, subst, ◌∙◌, arith, min, if◌then◌else◌}
 use Rattle.std.specs.Prelude.{not, filter}
 use Rattle.std.specs.List.{AllByRecursion}
-use Rattle.std.proofs.lemmas.Bool.{true≢false, eqb-true, eq-eqb}
+use Rattle.std.proofs.lemmas.Bool.{eqb-true, eq-eqb}
 use Rattle.std.proofs.lemmas.List.{reverse-append, take_all, map-append}
-use Rattle.std.proofs.Math.Seq.{drop-cons}
 use Rattle.t_base.specs.declared.basics.Var.{Var}
 use Rattle.cps_ir.specs.Reaches.{is_in}
-use Rattle.cps_ir.proofs.ProperLists.{each_append, each_more}
-use Rattle.layout_relation.specs.Links.{IsIn, first, later, Zipped, zip_none, zip_one}
+use Rattle.cps_ir.proofs.ProperLists.{each_append}
+use Rattle.layout_relation.specs.Links.{IsIn, first, later, zip_none, zip_one}
 use Rattle.layout_relation.specs.Contexts.{paired, IsUnneeded}
 use Rattle.layout_relation.specs.Laid.{numbers, AreHeld}
 use Rattle.layout_relation.proofs.Lists.{in_right, in_left, zipped_join}
@@ -171,6 +170,7 @@ same_join x y a b c d = by x.k y.k x.param y.param x.body y.body x.block y.block
   where
     made : Var → Var → ℕ → ℕ → Join
     made k p t n = record { k = k; param = p; body = t; block = n }
+
     by : (k j p q : Var) (t u n m : ℕ) → k ≡ j → p ≡ q → t ≡ u → n ≡ m → made k p t n ≡ made j q u m
     by k j p q t u n m e f g h = ap (λ z. made z p t n) e ∙ ap (λ z. made j z t n) f ∙ ap (λ z. made j q z n) g ∙ ap (λ z. made j q u z) h
 

@@ -1,14 +1,12 @@
 -- More requests.
-use Rattle.std.proofs.Common.{◌≡◌, ℕ, zero, suc, ◌+◌, ◌<◌, ◌≤◌, List, [], ◌∷◌, ◌++◌, length, map, slice_get, Some, None, refl, sym, ap, subst, ◌∙◌, arith}
-use Rattle.std.proofs.lemmas.List.{map-append, length-map}
-use Rattle.frame_ir.specs.declared.forms.Template.{Template}
-use Rattle.layout_relation.specs.Contexts.{Purpose}
+use Rattle.std.proofs.Common.{◌≡◌, ℕ, ◌≤◌, List, [], ◌∷◌, ◌++◌, length, slice_get, Some, refl, sym, subst, arith}
+use Rattle.std.proofs.lemmas.List.{map-append}
 use Rattle.layout_relation.specs.Laid.{Sketch, IsFor}
-use Rattle.layout_relation.proofs.Lists.{get_front, get_behind}
+use Rattle.layout_relation.proofs.Lists.{get_front}
 use Rattle.closure_layout.specs.declared.tables.Tables.{Tables}
 use Rattle.closure_layout.specs.declared.requests.Request.{Request}
 use Rattle.closure_layout.specs.declared.requests.Work.{Work}
-use Rattle.closure_layout.specs.Sketches.{purposes_of, purpose_of, sketch_of, IsFront, Ever, Grows, Scoped, AreBelow}
+use Rattle.closure_layout.specs.Sketches.{purposes_of, purpose_of, Ever, Grows, Scoped, AreBelow}
 
 module _ (w : Tables) where
   pub later : (old new : Work) (P : Sketch → Type 0) → Grows w old new → Ever w old P → Ever w new P

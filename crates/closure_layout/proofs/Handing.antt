@@ -1,5 +1,5 @@
 -- Values that are given.
-use Rattle.std.proofs.Common.{◌≡◌, ℕ, zero, suc, ◌+◌, ◌<◌, ◌≤◌, ◌==◌, Bool, true, false, not, List, [], ◌∷◌, ◌++◌, length, map, drop, slice_get, Some, None, Option, refl, sym, ap, subst, ◌∙◌, arith}
+use Rattle.std.proofs.Common.{◌≡◌, ℕ, ◌+◌, ◌<◌, ◌≤◌, List, [], ◌∷◌, length, map, drop, slice_get, Some, sym, ap, subst, ◌∙◌, arith}
 use Rattle.std.specs.Option.{option_map}
 use Rattle.std.proofs.lemmas.Option.{slice_get-map}
 use Rattle.t_base.specs.declared.basics.Var.{Var}
@@ -8,28 +8,25 @@ use Rattle.cps_ir.specs.declared.args.Arg.TheVariants as Argument
 use Rattle.cps_ir.specs.declared.terms.Cont.{Cont}
 use Rattle.cps_ir.specs.declared.terms.Cont.TheVariants as Continuation
 use Rattle.cps_ir.specs.declared.terms.Cps.{Cps}
-use Rattle.cps_ir.specs.Reaches.{is_in}
-use Rattle.frame_ir.specs.declared.forms.FrameOp.{FrameOp}
 use Rattle.frame_ir.specs.declared.forms.FrameEnd.{FrameEnd}
 use Rattle.frame_ir.specs.declared.forms.FrameEnd.TheVariants as Last
-use Rattle.layout_relation.specs.Contexts.{Leaves, exit_of, Begins, Purpose}
+use Rattle.layout_relation.specs.Contexts.{Begins, Purpose}
 use Rattle.frame_ir.specs.declared.forms.Template.{Template}
-use Rattle.layout_relation.specs.Laid.{Sketch, IsFor, numbers, AreHeld, IsNewIn, Gives, gives_out, gives_join, gives_jump, gives_here, gives_unused, GoesOn, goes_to, Lays, variables}
+use Rattle.layout_relation.specs.Laid.{IsFor, numbers, AreHeld, IsNewIn, Gives, gives_out, gives_join, gives_jump, gives_here, gives_unused, GoesOn, goes_to, Lays, variables}
 use Rattle.layout_relation.proofs.Lists.{zipped_length}
 use Rattle.layout_relation.proofs.Scopes.{eqb_same}
 use Rattle.closure_layout.specs.declared.tables.Tables.{Tables}
 use Rattle.closure_layout.specs.declared.requests.Work.{Work}
 use Rattle.closure_layout.specs.declared.requests.Request.TheVariants as For
 use Rattle.closure_layout.specs.declared.lines.Line.{Line}
-use Rattle.closure_layout.specs.declared.lines.Step.{Step}
 use Rattle.closure_layout.specs.declared.lines.Step.TheVariants.{Next, Done}
 use Rattle.closure_layout.specs.declared.sites.Join.{Join}
 use Rattle.closure_layout.specs.declared.sites.Way.TheVariants as To
 use Rattle.closure_layout.specs.Around.{Around}
 use Rattle.closure_layout.specs.Sketches.{Scoped, Ever, Grows, Leads, AreBelow, needs_behind, term_needs, meeting_of, exits_of, exits_at, catches_of, catching_of, context_at, context_of, purpose_of, sketch_of, IsWay}
-use Rattle.closure_layout.specs.Steps.{Arrives, IsAskedFor, IsJumpTo, IsNewJump, IsGiven, MayGoOn, held_also, start_of, Ends}
+use Rattle.closure_layout.specs.Steps.{Arrives, IsJumpTo, IsGiven, MayGoOn, start_of, Ends}
 use Rattle.closure_layout.proofs.Basics.{not_behind}
-use Rattle.closure_layout.proofs.Growing.{grows_none, later}
+use Rattle.closure_layout.proofs.Growing.{grows_none}
 
 -- a block that was asked for begins behind a continuation
 pub begins_asked : (w : Tables) (k : Work) (block : ℕ) (vars : List Var) (a : Around) (param : Var) (body : ℕ) → slice_get k.requests.items block ≡ Some (For.Begins vars a body) → numbers vars ≡ param.0 ∷ needs_behind w param body

@@ -1,12 +1,10 @@
 -- A term is laid out.
-use Rattle.std.proofs.Common.{◌≡◌, ℕ, ◌+◌, ◌<◌, ◌≤◌, Bool, true, false, List, [], ◌∷◌, ◌++◌, length, map, Some, None, Option, refl, sym, ap, subst, ◌∙◌, arith, append_assoc}
+use Rattle.std.proofs.Common.{◌≡◌, ℕ, ◌+◌, ◌<◌, true, false, List, [], ◌∷◌, ◌++◌, map, refl, sym, ap, subst, ◌∙◌, arith, append_assoc}
 use Rattle.std.proofs.lemmas.List.{append-nil}
 use Rattle.t_base.specs.declared.basics.Var.{Var}
-use Rattle.t_base.specs.declared.builtins.Builtin.{Builtin}
 use Rattle.cps_ir.specs.declared.args.Arg.{Arg}
 use Rattle.cps_ir.specs.declared.args.Arg.TheVariants as Argument
 use Rattle.cps_ir.specs.declared.terms.Cont.{Cont}
-use Rattle.cps_ir.specs.declared.terms.Cont.TheVariants as Continuation
 use Rattle.cps_ir.specs.declared.terms.Term.{Term}
 use Rattle.cps_ir.specs.declared.terms.Term.TheVariants as Node
 use Rattle.cps_ir.specs.declared.terms.Cps.{Cps}
@@ -24,7 +22,6 @@ use Rattle.closure_layout.specs.declared.lines.Line.{Line}
 use Rattle.closure_layout.specs.declared.lines.Step.{Step}
 use Rattle.closure_layout.specs.declared.lines.Step.TheVariants.{Next, Done}
 use Rattle.closure_layout.specs.declared.frames.Waiting.{Waiting}
-use Rattle.closure_layout.specs.Around.{Around}
 use Rattle.closure_layout.specs.Sketches.{Scoped, Ever, Grows, Leads, AreBelow, context_at, context_of, sketch_of, catching_of, rank_of, needs_behind, is_celled, exits_of}
 use Rattle.closure_layout.specs.Steps.{IsLaid, IsPrepared, IsTail, IsAwaited, IsArm, Ends}
 use Rattle.closure_layout.proofs.Growing.{grows_more, later, below_more}

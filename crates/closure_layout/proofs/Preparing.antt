@@ -1,5 +1,5 @@
 -- Arguments one after another.
-use Rattle.std.proofs.Common.{◌≡◌, ℕ, zero, suc, ◌+◌, ◌<◌, ◌≤◌, ◌==◌, nat_lt, Bool, true, false, ◌||◌, List, [], ◌∷◌, ◌++◌, length, take, drop, get_or, slice_get, Some, None, Option, if◌then◌else◌, refl, sym, ap, subst, ◌∙◌, arith, append_assoc}
+use Rattle.std.proofs.Common.{◌≡◌, ℕ, zero, suc, ◌+◌, ◌<◌, ◌≤◌, ◌==◌, nat_lt, Bool, true, false, ◌||◌, List, [], ◌∷◌, ◌++◌, length, take, drop, get_or, slice_get, Some, None, if◌then◌else◌, refl, sym, ap, subst, ◌∙◌, arith, append_assoc}
 use Rattle.std.specs.List.{AllByRecursion}
 use Rattle.std.proofs.lemmas.Bool.{true≢false, eqb-true, ltb-true}
 use Rattle.std.proofs.lemmas.List.{append-nil}
@@ -20,10 +20,10 @@ use Rattle.frame_ir.specs.declared.forms.FrameOp.{FrameOp}
 use Rattle.frame_ir.specs.declared.forms.FrameOp.TheVariants as Op
 use Rattle.frame_ir.specs.Arguments.{number_among, is_proc}
 use Rattle.layout_relation.specs.Contexts.{IsUnused}
-use Rattle.layout_relation.specs.Laid.{Sketch, MakesClosure, SameArg, Awaits, awaits_lam, awaits_join, Prepares, prepares_none, prepares_same, prepares_closure, made_by}
+use Rattle.layout_relation.specs.Laid.{Sketch, awaits_lam, awaits_join, Prepares, prepares_none, prepares_same, prepares_closure, made_by}
 use Rattle.closure_layout.specs.declared.tables.Tables.{Tables}
 use Rattle.closure_layout.specs.declared.requests.Work.{Work}
-use Rattle.closure_layout.specs.Sketches.{Scoped, Ever, Grows, AreBelow, sketch_of, needs_behind, meeting_of, exits_of, IsWay}
+use Rattle.closure_layout.specs.Sketches.{Scoped, Grows, AreBelow, sketch_of, needs_behind, meeting_of, exits_of, IsWay}
 use Rattle.closure_layout.specs.Steps.{MakesNew, IsPrepared, IsSameArg, IsGlobalKind, IsFrame, IsAwaited, return_of}
 use Rattle.closure_layout.specs.Around.{Around}
 use Rattle.closure_layout.specs.declared.sites.Join.{Join}
@@ -32,7 +32,7 @@ use Rattle.closure_layout.specs.declared.frames.Waiting.{Waiting}
 use Rattle.cps_ir.specs.declared.terms.Cont.{Cont}
 use Rattle.cps_ir.specs.declared.terms.Cont.TheVariants as Continuation
 use Rattle.closure_layout.proofs.Basics.{take_more}
-use Rattle.closure_layout.proofs.Growing.{later, grows_none, grows_same, grows_more}
+use Rattle.closure_layout.proofs.Growing.{later, grows_none, grows_more}
 
 -- ---- numbers apart
 

@@ -1,6 +1,6 @@
 -- Lines of terms, and blocks.
-use Rattle.std.proofs.Common.{◌≡◌, ℕ, zero, suc, ◌+◌, ◌<◌, ◌≤◌, ◌==◌, Bool, true, false, ◌||◌, List, [], ◌∷◌, ◌++◌, length, map, get_or, slice_get, Some, None, Option, refl, sym, ap, subst, ◌∙◌, arith, append_assoc}
-use Rattle.std.proofs.lemmas.List.{append-nil, length-map, map-append, length-append}
+use Rattle.std.proofs.Common.{◌≡◌, ℕ, zero, suc, ◌+◌, ◌<◌, ◌≤◌, ◌==◌, false, ◌||◌, List, [], ◌∷◌, ◌++◌, length, get_or, slice_get, Some, None, refl, sym, ap, subst, ◌∙◌, arith, append_assoc}
+use Rattle.std.proofs.lemmas.List.{append-nil, length-map, map-append}
 use Rattle.std.proofs.lemmas.Option.{slice_get_read}
 use Rattle.t_base.specs.declared.basics.Var.{Var}
 use Rattle.cps_ir.specs.declared.terms.Cps.{Cps}
@@ -10,7 +10,7 @@ use Rattle.frame_ir.specs.declared.forms.FrameOp.TheVariants as Op
 use Rattle.frame_ir.specs.declared.forms.FrameEnd.{FrameEnd}
 use Rattle.frame_ir.specs.declared.forms.Block.{Block}
 use Rattle.layout_relation.specs.Contexts.{IsUnused, IsUnneeded, OwnExit, Begins, paired}
-use Rattle.layout_relation.specs.Laid.{Sketch, Lays, lays, LaysTerm, AreDistinct, numbers, Fetches, fetches_none, fetches_one, goes_here, AreHeld, IsFor, variables}
+use Rattle.layout_relation.specs.Laid.{Lays, lays, AreDistinct, numbers, Fetches, fetches_none, fetches_one, goes_here, AreHeld, IsFor, variables}
 use Rattle.cps_ir.specs.declared.terms.Lam.{Lam}
 use Rattle.frame_ir.specs.declared.forms.FrameEnd.TheVariants as Last
 use Rattle.std.specs.List.{AllByRecursion}
@@ -21,12 +21,12 @@ use Rattle.closure_layout.specs.declared.lines.Line.{Line}
 use Rattle.closure_layout.specs.declared.lines.Step.TheVariants.{Next, Done}
 use Rattle.closure_layout.specs.Around.{Around}
 use Rattle.closure_layout.specs.Sketches.{Scoped, Ever, Grows, AreBelow, context_at, context_of, sketch_of, counted, needs_behind, term_needs, is_celled, exits_at, lam_needs, purpose_of}
-use Rattle.closure_layout.specs.Steps.{IsLaid, IsStep, IsLaidFrom, IsBlockFor, IsOpened, IsFetched, IsCallable}
+use Rattle.closure_layout.specs.Steps.{IsStep, IsLaidFrom, IsBlockFor, IsOpened, IsFetched, IsCallable}
 use Rattle.closure_layout.specs.declared.blocks.OpenScope.{OpenScope}
 use Rattle.closure_layout.proofs.Basics.{not_behind}
 use Rattle.layout_relation.proofs.Scopes.{eqb_same}
-use Rattle.closure_layout.proofs.Growing.{grows_more, grows_same, later, below_more}
-use Rattle.closure_layout.proofs.Preparing.{less_differs, more_differs}
+use Rattle.closure_layout.proofs.Growing.{grows_more, grows_same, later}
+use Rattle.closure_layout.proofs.Preparing.{more_differs}
 
 module _ (cps : Cps) (w : Tables) where
   -- a line on its way
@@ -106,6 +106,7 @@ pairs_below (x ∷ xs) (y ∷ ys) n (suc k) m e le = ((let h = head_same y.0 n (
   where
     head_same : (a b : ℕ) (as_ bs : List ℕ) → a ∷ as_ ≡ b ∷ bs → a ≡ b
     head_same a b as_ bs h = cc
+
     tail_same : (a b : ℕ) (as_ bs : List ℕ) → a ∷ as_ ≡ b ∷ bs → as_ ≡ bs
     tail_same a b as_ bs h = cc
 
@@ -146,7 +147,6 @@ module _ (cps : Cps) (w : Tables) where
     };
   }
 
-
   pub return_fits : (old one two three new : Work) (before after : Line) (param value : Var) (body : ℕ) (a : Around) (needs : List Var) (held : Scoped) (gets : List FrameOp) (b : Block) → numbers needs ≡ needs_behind w param body → is_celled w param.0 ≡ false → IsUnneeded (exits_at w a) param.0
       → length needs ≤ cps.shared.size + 2 → value.0 ≡ old.next → one.next ≡ old.next + 1 → one.requests ≡ old.requests → one.templates ≡ old.templates → IsFetched one two ((param.0, value.0) ∷ []) held [] gets needs None
       → before.ops.items ≡ gets ++ Op.Pop ∷ [] → before.scope ≡ held → before.site ≡ a → b.params ≡ value ∷ [] → b.ops ≡ after.ops → IsLaidFrom cps w two new before after body b.last → IsBlockFor cps w old new (For.Resumes param body a) b
@@ -177,24 +177,24 @@ module _ (cps : Cps) (w : Tables) where
     fits = λ ps ts2 x y.
         let whole : numbers vars ≡ numbers lam.params ++ lam_needs w l = ap numbers joined ∙ map-append (λ z. z.0) lam.params needs ∙ ap (λ ns. numbers lam.params ++ ns) same in
         record {
-      lam = lam;
-      is = is;
-      self = own;
-      params = opened.params;
-      vars = held;
-      ys = ats;
-      body = block;
-      takes = params;
-      distinct = subst AreDistinct (sym (ap (λ n. own.0 ∷ n) (o.params ∙ ap (λ n. counted n (length lam.params)) (next_is one.next own.0 old.next next first)))) (counted_distinct own.0 (suc (length lam.params)));
-      count = sym (opened_length one two lam.params opened o);
-      few = callable.count;
-      fetches = subst (λ zs. Fetches (λ z slot. Op.ClosureGet z own slot) own.0 (lam_needs w l) (paired (numbers lam.params) opened.params) held zs) (sym f.ops)
-          (subst (λ hs. Fetches (λ z slot. Op.ClosureGet z own slot) own.0 (lam_needs w l) hs held f.made) o.scope (subst (λ ns. Fetches (λ z slot. Op.ClosureGet z own slot) own.0 ns opened.scope held f.made) same (f.fetches own.0 (let n = o.next in omega (arith, n, next, first)))));
-      short = let e = ap length f.ops in let k = f.count in let m = callable.few in omega (arith, e, k, m);
-      goes = last;
-      begins = subst (λ ns. IsFor (sketch_of w ps ts2) block (Begins (record { vars = ns; exits = OwnExit lam.k.0; catches = []; term = lam.body }))) whole (begins ps ts2 x y);
-      held = subst (λ ns. AreHeld held ns ats) whole found;
-      once = callable.distinct;
-      apart = subst (λ ns. AllByRecursion (λ z. (is_in ns z ≡ false) × (is_celled w z ≡ false)) (numbers lam.params)) same callable.apart;
-    };
+          lam = lam;
+          is = is;
+          self = own;
+          params = opened.params;
+          vars = held;
+          ys = ats;
+          body = block;
+          takes = params;
+          distinct = subst AreDistinct (sym (ap (λ n. own.0 ∷ n) (o.params ∙ ap (λ n. counted n (length lam.params)) (next_is one.next own.0 old.next next first)))) (counted_distinct own.0 (suc (length lam.params)));
+          count = sym (opened_length one two lam.params opened o);
+          few = callable.count;
+          fetches = subst (λ zs. Fetches (λ z slot. Op.ClosureGet z own slot) own.0 (lam_needs w l) (paired (numbers lam.params) opened.params) held zs) (sym f.ops)
+              (subst (λ hs. Fetches (λ z slot. Op.ClosureGet z own slot) own.0 (lam_needs w l) hs held f.made) o.scope (subst (λ ns. Fetches (λ z slot. Op.ClosureGet z own slot) own.0 ns opened.scope held f.made) same (f.fetches own.0 (let n = o.next in omega (arith, n, next, first)))));
+          short = let e = ap length f.ops in let k = f.count in let m = callable.few in omega (arith, e, k, m);
+          goes = last;
+          begins = subst (λ ns. IsFor (sketch_of w ps ts2) block (Begins (record { vars = ns; exits = OwnExit lam.k.0; catches = []; term = lam.body }))) whole (begins ps ts2 x y);
+          held = subst (λ ns. AreHeld held ns ats) whole found;
+          once = callable.distinct;
+          apart = subst (λ ns. AllByRecursion (λ z. (is_in ns z ≡ false) × (is_celled w z ≡ false)) (numbers lam.params)) same callable.apart;
+        };
   }

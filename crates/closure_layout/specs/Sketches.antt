@@ -1,5 +1,5 @@
 -- Requests for blocks as purposes of blocks, and what holds however many more requests come.
-use Rattle.std.specs.Prelude.{◌≡◌, ℕ, zero, suc, ◌+◌, ◌<◌, ◌≤◌, ◌==◌, Bool, false, not, List, [], ◌∷◌, ◌++◌, length, map, filter, drop, Option, Some, None, slice_get, if◌then◌else◌}
+use Rattle.std.specs.Prelude.{◌≡◌, ℕ, zero, suc, ◌+◌, ◌<◌, ◌≤◌, ◌==◌, Bool, false, not, List, [], ◌∷◌, length, map, filter, drop, Option, Some, None, slice_get, if◌then◌else◌}
 use Rattle.std.specs.Option.{option_map_or}
 use Rattle.std.specs.List.{AllByRecursion}
 use Rattle.t_base.specs.declared.basics.Var.{Var}
@@ -10,7 +10,7 @@ use Rattle.frame_ir.specs.declared.forms.FrameEnd.{FrameEnd}
 use Rattle.frame_ir.specs.declared.forms.Template.{Template}
 use Rattle.cps_walk.specs.Marked.{is_marked}
 use Rattle.layout_relation.specs.Contexts.{Catching, Bare, Framed, Meeting, Exits, NoExit, OwnExit, JoinExit, Leaves, Meets, exit_of, Context, Purpose, CodeOf, MethodOf, Begins, ArmOf, PassesOn, Resumes}
-use Rattle.layout_relation.specs.Laid.{Sketch, numbers, Lays, made_by}
+use Rattle.layout_relation.specs.Laid.{Sketch, numbers, Lays}
 use Rattle.closure_layout.specs.declared.tables.Tables.{Tables}
 use Rattle.closure_layout.specs.declared.sites.Join.{Join}
 use Rattle.closure_layout.specs.declared.sites.Opened.{Opened}

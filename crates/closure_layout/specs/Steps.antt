@@ -18,7 +18,7 @@ use Rattle.closure_layout.specs.declared.requests.Request.TheVariants as For
 use Rattle.frame_ir.specs.declared.forms.Template.{Template}
 use Rattle.frame_ir.specs.Arguments.{code_of_global}
 use Rattle.layout_relation.specs.Contexts.{Return, Leaves, exit_of, CodeOf, Resumes, Begins, ArmOf, Start, paired, IsUnneeded, IsFresh, Purpose}
-use Rattle.layout_relation.specs.Laid.{Sketch, IsFor, numbers, AreDistinct, AreHeld, SameArg, Prepares, Awaits, Gives, GoesOn, Lays, LaysTerm, made_by, most_needs, variables, BlockFits, Fetches}
+use Rattle.layout_relation.specs.Laid.{Sketch, IsFor, numbers, AreDistinct, AreHeld, SameArg, Prepares, Awaits, Gives, Lays, LaysTerm, made_by, most_needs, variables, BlockFits, Fetches}
 use Rattle.frame_ir.specs.declared.forms.Block.{Block}
 use Rattle.closure_layout.specs.declared.requests.Request.{Request}
 use Rattle.closure_layout.specs.declared.tables.Tables.{Tables}

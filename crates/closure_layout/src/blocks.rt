@@ -15,8 +15,8 @@ use crate::scopes::{Scope, are_distinct, find_all, names};
 use crate::sites::Site;
 use crate::tables::{Tables, is_celled, lam_needs, needs_behind};
 use crate::terms::{
-    lay_call, lay_give, lay_global_get, lay_global_init, lay_global_set, lay_halt, lay_if, lay_join,
-    lay_prim,
+    lay_call, lay_give, lay_global_get, lay_global_init, lay_global_set, lay_halt, lay_if,
+    lay_join, lay_prim,
 };
 use cps_ir::{Arg, Cps, Term};
 use frame_ir::{Block, FrameEnd, FrameOp};
@@ -52,8 +52,15 @@ fn lay_term(
             let step = lay_if(alloc, cps, tables, work, line, place, *test, *yes, *no)?;
             Ok(step)
         }
-        Term::Join { k, param, body, rest } => {
-            let step = lay_join(alloc, cps, tables, work, line, place, *k, *param, *body, *rest)?;
+        Term::Join {
+            k,
+            param,
+            body,
+            rest,
+        } => {
+            let step = lay_join(
+                alloc, cps, tables, work, line, place, *k, *param, *body, *rest,
+            )?;
             Ok(step)
         }
         Term::Give { k, value } => {
@@ -202,7 +209,12 @@ fn begin_block(
 }
 
 /// The block of a CATCH in a tail place.
-fn passing_block(alloc: Global, cps: &Cps, tables: &Tables, work: &mut Work) -> Result<Block, Memory>
+fn passing_block(
+    alloc: Global,
+    cps: &Cps,
+    tables: &Tables,
+    work: &mut Work,
+) -> Result<Block, Memory>
     ensures { IfOk result (IsBlockFor cps.now tables.now work.old work.new For.PassesOn) }
 {
     let value = work.variable()?;

@@ -74,7 +74,12 @@ fn arrive(
 }
 
 /// The variables of a block that begins behind a continuation: its parameter and what is needed.
-pub(crate) fn begin_with(alloc: Global, tables: &Tables, param: Var, body: u32) -> Result<Vars, Memory>
+pub(crate) fn begin_with(
+    alloc: Global,
+    tables: &Tables,
+    param: Var,
+    body: u32,
+) -> Result<Vars, Memory>
     ensures { IfOk result (λ vars. numbers vars ≡ param.0 ∷ needs_behind tables.now param body) }
 {
     let needs = needs_behind(alloc, tables, param, body)?;
@@ -89,11 +94,13 @@ fn is_asked_for(work: &Work, block: u32, vars: &Vars, site: &Site, term: u32) ->
     ensures { IsTrue result → IsAskedFor work.now block vars.now site.now term }
 {
     match work.requests.get(block as usize) {
-        Some(Request::Begins {
-            vars: own_vars,
-            site: own_site,
-            term: own_term,
-        }) => {
+        Some(
+            Request::Begins {
+                vars: own_vars,
+                site: own_site,
+                term: own_term,
+            },
+        ) => {
             *own_term == term
                 && own_site.is_same(site)
                 && are_same(own_vars.as_slice(), vars.as_slice())
@@ -182,7 +189,14 @@ pub(crate) fn is_fresh(tables: &Tables, scope: &Scope, site: &Site, var: Var) ->
 }
 
 /// Goes on in place, with a variable that is bound to a value or that isn't needed.
-fn go_on(tables: &Tables, line: &mut Line, term: u32, param: Var, body: u32, at: Option<Var>) -> Result<(), Memory>
+fn go_on(
+    tables: &Tables,
+    line: &mut Line,
+    term: u32,
+    param: Var,
+    body: u32,
+    at: Option<Var>,
+) -> Result<(), Memory>
     ensures same { line.new.ops ≡ line.old.ops }
     ensures site { line.new.site ≡ line.old.site }
     ensures scope { OnOk result (line.new.scope ≡ held_also param at line.old.scope) }
@@ -222,7 +236,16 @@ pub(crate) fn give_new(
             Ok(Step::Next(body))
         }
         Cont::Var(j) => {
-            let last = give_named(alloc, cps, tables, work, &line.scope, &line.site, j, Arg::Var(to))?;
+            let last = give_named(
+                alloc,
+                cps,
+                tables,
+                work,
+                &line.scope,
+                &line.site,
+                j,
+                Arg::Var(to),
+            )?;
             Ok(Step::Done(last))
         }
     }
@@ -246,7 +269,17 @@ pub(crate) fn give_value(
     match k {
         Cont::Lam { param, body } => {
             if names(term_needs(tables, body), param) {
-                let last = give_block(alloc, cps, tables, work, &line.scope, &line.site, param, body, value)?;
+                let last = give_block(
+                    alloc,
+                    cps,
+                    tables,
+                    work,
+                    &line.scope,
+                    &line.site,
+                    param,
+                    body,
+                    value,
+                )?;
                 return Ok(Step::Done(last));
             }
             go_on(tables, line, term, param, body, None)?;

@@ -131,7 +131,15 @@ fn free_in(alloc: Global, cps: &Cps, free: &Sets, term: &Term) -> Result<Vec<Var
             add_all(&mut set, set_at(free, *no), &[])?;
         }
         Term::Labels { vars, lams, body } => {
-            add_labels(alloc, &mut set, cps, free, vars.as_slice(), lams.as_slice(), *body)?;
+            add_labels(
+                alloc,
+                &mut set,
+                cps,
+                free,
+                vars.as_slice(),
+                lams.as_slice(),
+                *body,
+            )?;
         }
         Term::Join {
             k,
@@ -168,7 +176,10 @@ fn free_in(alloc: Global, cps: &Cps, free: &Sets, term: &Term) -> Result<Vec<Var
             add_cont(&mut set, free, *k)?;
         }
         Term::Object {
-            proc, methods, k, ..
+            proc,
+            methods,
+            k,
+            ..
         } => {
             add_lams(&mut set, cps, free, methods.as_slice())?;
             add_given(&mut set, cps, free, *proc, *k)?;

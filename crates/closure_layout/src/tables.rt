@@ -5,8 +5,8 @@ ghost use Rattle.layout_relation.specs.Laid.{numbers};
 ghost use Rattle.closure_layout.specs.Sketches.{term_needs, lam_needs, needs_behind, rank_of, is_celled, KnowsFirst, NeedsAreSmall};
 ghost use Rattle.cps_ir.specs.Whole.{IsWhole};
 
-use crate::scopes::names;
 use crate::needs::{Sets, all_needs, lam_needs as all_lam_needs};
+use crate::scopes::names;
 use cps_ir::{Cps, Term};
 use cps_walk::{first_lams, is_marked, mark, walk};
 use std::alloc::Global;

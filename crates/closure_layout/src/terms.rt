@@ -144,13 +144,7 @@ pub(crate) fn lay_if(
 }
 
 /// Asks for an arm.
-fn arm(
-    alloc: Global,
-    work: &mut Work,
-    scope: &Scope,
-    site: &Site,
-    term: u32,
-) -> Result<u32, Memory>
+fn arm(alloc: Global, work: &mut Work, scope: &Scope, site: &Site, term: u32) -> Result<u32, Memory>
     ensures { IfOk result (IsArm work.old work.new scope.now site.now term) }
 {
     let scope = scope.copy(alloc)?;

@@ -1,4 +1,4 @@
-use Rattle.std.proofs.Common.{refl, sym, ap, subst, ◌∙◌}
+use Rattle.std.proofs.Common.{refl, sym, subst}
 use Rattle.closure_layout.proofs.Preparing.{not_less}
 use Rattle.layout_relation.specs.Laid.{AreHeld}
 use Rattle.closure_layout.specs.declared.requests.Request.TheVariants as For

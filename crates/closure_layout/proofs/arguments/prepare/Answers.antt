@@ -1,4 +1,4 @@
-use Rattle.std.proofs.Common.{refl, sym, ap, subst, ◌∙◌, arith, ◌∷◌, []}
+use Rattle.std.proofs.Common.{sym, subst, arith, ◌∷◌, []}
 use Rattle.cps_ir.specs.declared.args.Arg.TheVariants as Argument
 use Rattle.closure_layout.specs.Steps.{IsPrepared}
 use Rattle.closure_layout.proofs.Growing.{grows_same}

@@ -1,4 +1,4 @@
-use Rattle.std.proofs.Common.{sym, subst, [], take}
+use Rattle.std.proofs.Common.{sym, subst, []}
 use Rattle.closure_layout.specs.Steps.{IsPrepared}
 use Rattle.closure_layout.proofs.Growing.{below_more}
 use Rattle.closure_layout.proofs.Preparing.{prepared_none, prepared_more}

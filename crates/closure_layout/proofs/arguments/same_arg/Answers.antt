@@ -1,5 +1,5 @@
 use Rattle.layout_relation.specs.Laid.{SameArg, same_const, same_var, same_global, same_builtin, same_op}
-use Rattle.std.proofs.Common.{sym, subst, ◌∙◌}
+use Rattle.std.proofs.Common.{sym, subst}
 use Rattle.cps_ir.specs.declared.args.Arg.TheVariants as Argument
 use Rattle.closure_layout.specs.Sketches.{sketch_of}
 use Rattle.closure_layout.specs.Steps.{IsGlobalKind}

@@ -1,4 +1,4 @@
-use Rattle.std.proofs.Common.{refl, ap, ◌∙◌}
+use Rattle.std.proofs.Common.{refl, ◌∙◌}
 use Rattle.closure_layout.proofs.Walking.{arm_fits}
 use Rattle.closure_layout.proofs.blocks.arm_block.Goals as goal
 

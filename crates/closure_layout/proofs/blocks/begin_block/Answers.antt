@@ -1,4 +1,4 @@
-use Rattle.std.proofs.Common.{refl, ap, ◌∙◌}
+use Rattle.std.proofs.Common.{refl}
 use Rattle.closure_layout.proofs.Walking.{begin_fits, opened_below}
 use Rattle.closure_layout.proofs.blocks.begin_block.Goals as goal
 

@@ -1,5 +1,4 @@
-use Rattle.std.proofs.Common.{refl, sym, ap, subst, ◌∙◌, [], ◌∷◌, ◌++◌, Some, None, arith, slice_get, length}
-use Rattle.std.proofs.lemmas.Option.{slice_get_read}
+use Rattle.std.proofs.Common.{refl, ap, subst, ◌∙◌, [], ◌∷◌, ◌++◌, Some}
 use Rattle.frame_ir.specs.declared.forms.FrameEnd.TheVariants as Last
 use Rattle.layout_relation.specs.Laid.{variables, IsFor, numbers, AreHeld}
 use Rattle.closure_layout.specs.declared.requests.Request.TheVariants as For

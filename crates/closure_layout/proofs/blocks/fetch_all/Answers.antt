@@ -1,6 +1,6 @@
 use Rattle.std.proofs.Common.{ap, ◌∙◌, rules}
 use Rattle.closure_layout.specs.Steps.{get_of}
-use Rattle.closure_layout.proofs.Fetching.{fetched_none, fetched_more, fetched_all}
+use Rattle.closure_layout.proofs.Fetching.{fetched_none, fetched_more}
 use Rattle.closure_layout.proofs.blocks.fetch_all.Goals as goal
 
 pub loop-place-init : goal.loop-place-init

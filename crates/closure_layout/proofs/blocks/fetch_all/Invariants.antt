@@ -1,4 +1,3 @@
-use Rattle.std.proofs.Common.{take}
 use Rattle.closure_layout.proofs.Fetching.{FetchedSoFar}
 use Rattle.closure_layout.proofs.blocks.fetch_all.Given as goal
 

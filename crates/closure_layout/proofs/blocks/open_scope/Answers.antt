@@ -1,4 +1,4 @@
-use Rattle.std.proofs.Common.{refl, sym, ap, subst, ◌∙◌, length, ◌≡◌, ◌++◌}
+use Rattle.std.proofs.Common.{ap, ◌∙◌, length, ◌++◌}
 use Rattle.layout_relation.specs.Contexts.{paired}
 use Rattle.layout_relation.specs.Laid.{numbers}
 use Rattle.closure_layout.proofs.Walking.{opened_made}

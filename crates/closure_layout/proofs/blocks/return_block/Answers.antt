@@ -1,5 +1,4 @@
-use Rattle.std.proofs.Common.{refl, sym, ap, subst, ◌∙◌, ◌≤◌, ◌+◌, [], ◌∷◌, ◌++◌, None, arith}
-use Rattle.frame_ir.specs.declared.forms.FrameOp.TheVariants as Op
+use Rattle.std.proofs.Common.{refl, sym, ap, subst, ◌∙◌, ◌≤◌, ◌+◌, [], ◌∷◌, ◌++◌, None}
 use Rattle.layout_relation.specs.Contexts.{IsUnneeded}
 use Rattle.closure_layout.specs.Sketches.{exits_at}
 use Rattle.closure_layout.specs.Steps.{IsFetched}

@@ -1,4 +1,4 @@
-use Rattle.std.proofs.Common.{refl, sym, arith, ◌∙◌}
+use Rattle.std.proofs.Common.{refl, sym, arith}
 use Rattle.closure_layout.proofs.Growing.{grows_same}
 use Rattle.closure_layout.proofs.Laying.{laid_cell}
 use Rattle.closure_layout.proofs.cells.lay_cell.Goals as goal

@@ -1,4 +1,4 @@
-use Rattle.std.proofs.Common.{arith, ap, [], ◌∷◌, ◌++◌, refl, sym, subst, ◌∙◌}
+use Rattle.std.proofs.Common.{arith, ap, [], ◌∷◌, ◌++◌, sym, subst, ◌∙◌}
 use Rattle.cps_ir.specs.declared.terms.Term.TheVariants as Node
 use Rattle.frame_ir.specs.declared.forms.FrameOp.TheVariants as Op
 use Rattle.layout_relation.specs.Laid.{LaysTerm, lays_cell_get}

@@ -1,5 +1,4 @@
 use Rattle.std.proofs.Common.{sym, subst, []}
-use Rattle.cps_ir.specs.declared.args.Arg.TheVariants as Argument
 use Rattle.layout_relation.specs.Laid.{Gives}
 use Rattle.closure_layout.specs.Sketches.{context_of, sketch_of}
 use Rattle.closure_layout.proofs.Growing.{grows_none, below_more}

@@ -1,4 +1,4 @@
-use Rattle.std.proofs.Common.{◌∙◌, sym, ap, subst, ◌≤◌, ◌≡◌, Some, slice_get}
+use Rattle.std.proofs.Common.{◌∙◌, sym, subst, ◌≤◌, ◌≡◌, Some, slice_get}
 use Rattle.closure_layout.proofs.Walking.{item_there}
 use Rattle.closure_layout.proofs.Finishing.{blocks_none, blocks_more, blocks_all}
 use Rattle.closure_layout.proofs.layouts.lay_blocks.Goals as goal

@@ -1,4 +1,4 @@
-use Rattle.std.proofs.Common.{◌∙◌, sym, ap, rules, refl, length}
+use Rattle.std.proofs.Common.{rules, refl, length}
 use Rattle.closure_layout.proofs.Finishing.{stand_none, stand_more, none_needed}
 use Rattle.closure_layout.proofs.layouts.request_firsts.Goals as goal
 

@@ -1,4 +1,4 @@
-use Rattle.std.proofs.Common.{sym, subst, ap, ◌∙◌}
+use Rattle.std.proofs.Common.{sym, subst}
 use Rattle.layout_relation.specs.Laid.{AreHeld, numbers}
 use Rattle.layout_relation.specs.Links.{zip_none}
 use Rattle.closure_layout.proofs.Basics.{zipped_more_held}

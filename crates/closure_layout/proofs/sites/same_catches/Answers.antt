@@ -1,5 +1,5 @@
 use Rattle.std.proofs.Common.{refl}
-use Rattle.closure_layout.proofs.Basics.{same_more, same_all, same_var}
+use Rattle.closure_layout.proofs.Basics.{same_more, same_all}
 use Rattle.closure_layout.proofs.sites.same_catches.Goals as goal
 
 pub loop-place-preserved : goal.loop-place-preserved

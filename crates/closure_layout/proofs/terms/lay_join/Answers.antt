@@ -1,4 +1,4 @@
-use Rattle.std.proofs.Common.{refl, sym, subst, ◌∙◌, ◌<◌, ap, ◌∷◌}
+use Rattle.std.proofs.Common.{refl, subst, ◌<◌}
 use Rattle.closure_layout.specs.declared.requests.Request.TheVariants as For
 use Rattle.closure_layout.specs.Sketches.{rank_of}
 use Rattle.closure_layout.proofs.Growing.{grows_asked}

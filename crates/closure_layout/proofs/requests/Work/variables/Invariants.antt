@@ -8,5 +8,5 @@ invariant-loop-step l = record {
   vars : numbers l.vars.items ≡ counted l.fn.self.next l.step;
   next : l.self.next ≡ l.fn.self.next + l.step;
   requests : l.self.requests ≡ l.fn.self.requests;
-  templates : l.self.templates ≡ l.fn.self.templates
+  templates : l.self.templates ≡ l.fn.self.templates;
 }

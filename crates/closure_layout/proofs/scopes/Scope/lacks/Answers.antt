@@ -1,4 +1,4 @@
-use Rattle.std.proofs.Common.{sym, subst, ap, ◌∙◌, map, reverse}
+use Rattle.std.proofs.Common.{subst, ap, ◌∙◌, map, reverse}
 use Rattle.closure_layout.specs.Sketches.{IsNotHeld}
 use Rattle.closure_layout.proofs.Basics.{not_held, pair_of}
 use Rattle.closure_layout.proofs.scopes.Scope.lacks.Goals as goal
