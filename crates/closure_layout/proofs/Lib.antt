@@ -6,3 +6,4 @@ pub mod Laying
 pub mod Walking
 pub mod Fetching
 pub mod Finishing
+pub mod Labelling

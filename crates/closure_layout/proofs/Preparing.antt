@@ -66,7 +66,7 @@ pub lacks_below : (n x : ℕ) (ys : List ℕ) → x < n → AllByRecursion (λ y
 lacks_below n x [] lt h = refl
 lacks_below n x (y ∷ ys) lt h = ap (λ b. b || is_in ys x) (more_differs x y (let a = h.0 in omega (arith, a, lt))) ∙ lacks_below n x ys lt h.1
 
-is_in_join : (xs ys : List ℕ) (x : ℕ) → is_in xs x ≡ false → is_in ys x ≡ false → is_in (xs ++ ys) x ≡ false
+pub is_in_join : (xs ys : List ℕ) (x : ℕ) → is_in xs x ≡ false → is_in ys x ≡ false → is_in (xs ++ ys) x ≡ false
 is_in_join [] ys x h k = k
 is_in_join (y ∷ xs) ys x h k = by (y == x) (is_in xs x) h (λ g. is_in_join xs ys x g k)
   where

@@ -9,6 +9,7 @@ ghost use Rattle.closure_layout.specs.declared.requests.Request.TheVariants as F
 use crate::catches::{lay_catch, lay_uncatch};
 use crate::cells::{lay_cell, lay_cell_get, lay_cell_set};
 use crate::giving::{are_few, jump};
+use crate::labels::lay_labels;
 use crate::lines::{Line, Step};
 use crate::requests::{Request, Work};
 use crate::scopes::{Scope, are_distinct, find_all, names};
@@ -101,6 +102,10 @@ fn lay_term(
         }
         Term::Halt { value } => {
             let step = lay_halt(alloc, cps, tables, work, line, place, *value)?;
+            Ok(step)
+        }
+        Term::Labels { vars, lams, body } => {
+            let step = lay_labels(alloc, cps, tables, work, line, place, vars, lams, *body)?;
             Ok(step)
         }
         _ => Err(Memory),

@@ -60,7 +60,7 @@ fn lay_blocks(
 
 /// Frames that lay out a whole program in which no variable is assigned. Each LAMBDA has a block for its code, which fetches what it needs
 /// from its closure, and one for its body; each continuation that waits has the block to which its call returns; a call in a tail place makes
-/// no frame (Kranz 1988, on code generation). The shared parts are moved. A LABELS and an OBJECT are not laid out yet: they are answered as
+/// no frame (Kranz 1988, on code generation). The shared parts are moved. An OBJECT is not laid out yet: it is answered as
 /// want of memory, which is the only error otherwise.
 pub fn layout(alloc: Global, cps: Cps) -> Result<Frames, Memory>
     requires whole { IsWhole cps }

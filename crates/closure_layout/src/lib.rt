@@ -8,6 +8,7 @@ mod catches;
 mod cells;
 mod frames;
 mod giving;
+mod labels;
 mod layouts;
 mod lines;
 mod needs;
