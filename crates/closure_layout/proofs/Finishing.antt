@@ -1,0 +1,136 @@
+-- The whole layout.
+use Rattle.std.specs.Prelude.{IsSomeAnd}
+use Rattle.std.specs.List.{AllByRecursion}
+use Rattle.std.specs.Option.{option_map}
+use Rattle.std.proofs.Common.{◌≡◌, ℕ, zero, suc, ◌+◌, ◌<◌, ◌≤◌, false, List, [], ◌∷◌, ◌++◌, length, take, slice_get, Some, None, Option, refl, sym, ap, subst, ◌∙◌, arith, ⊎_elim}
+use Rattle.std.proofs.lemmas.Bool.{cases_order}
+use Rattle.std.proofs.lemmas.List.{length-append, length-map, take_all}
+use Rattle.std.proofs.lemmas.Option.{slice_get-map, slice_get_within}
+use Rattle.t_base.specs.declared.basics.Var.{Var}
+use Rattle.cps_ir.specs.declared.terms.Cps.{Cps}
+use Rattle.frame_ir.specs.declared.forms.Block.{Block}
+use Rattle.layout_relation.specs.Contexts.{Purpose, Begins, NoExit}
+use Rattle.layout_relation.specs.Laid.{IsFor, numbers, BlockFits, IsLaidOut}
+use Rattle.layout_relation.proofs.Lists.{get_front, some_at}
+use Rattle.closure_layout.specs.declared.tables.Tables.{Tables}
+use Rattle.closure_layout.specs.declared.requests.Work.{Work}
+use Rattle.closure_layout.specs.declared.requests.Request.{Request}
+use Rattle.closure_layout.specs.declared.requests.Request.TheVariants as For
+use Rattle.closure_layout.specs.Around.{Around}
+use Rattle.closure_layout.specs.Sketches.{Ever, Grows, lam_needs, vars_at, purpose_of, purposes_of, sketch_of}
+use Rattle.closure_layout.specs.Steps.{AreLaid, StandFirst, IsBlockFor}
+use Rattle.closure_layout.proofs.Growing.{grows_more, later}
+use Rattle.cps_ir.specs.Parts.{first_lams, is_assigned}
+use Rattle.frame_ir.specs.declared.forms.Frames.{Frames}
+
+-- ---- small needs
+
+pub small_all : (xs : List (List Var)) (n l : ℕ) → AllByRecursion (λ vs. length vs ≤ n) xs → length (vars_at xs l) ≤ n
+small_all [] n l h = omega arith
+small_all (x ∷ xs) n zero h = let e = length-map x (λ (z : Var). z.0) in let a = h.0 in omega (arith, e, a)
+small_all (x ∷ xs) n (suc l) h = small_all xs n l h.1
+
+pub small_taken : (xs : List (List Var)) (i n l : ℕ) → length xs ≤ i → AllByRecursion (λ vs. length vs ≤ n) (take i xs) → length (vars_at xs l) ≤ n
+small_taken xs i n l le h = small_all xs n l (subst (AllByRecursion (λ vs. length vs ≤ n)) (take_all i xs le) h)
+
+-- ---- the first codes
+
+same_some : {X : Type 0} (a b : X) → Some a ≡ Some b → a ≡ b
+same_some a b h = cc
+
+at_end : {X : Type 0} (xs : List X) (x : X) → slice_get (xs ++ x ∷ []) (length xs) ≡ Some x
+at_end [] x = refl
+at_end (y ∷ xs) x = at_end xs x
+
+-- a place that is below the next one is below or last
+by_place : {P : Type 0} (k n : ℕ) → k < n + 1 → (k < n → P) → (k ≡ n → P) → P
+by_place k n lt f g = ⊎_elim (λ e. g e) (λ h. ⊎_elim (λ l. f l) (λ l. absurd (omega (arith, lt, l))) h) (cases_order k n)
+
+pub stand_none : (w : Tables) (rs : List Request) → rs ≡ [] → StandFirst w 0 rs
+stand_none w rs e = (ap length e, λ l lt. absurd (omega (arith, lt)))
+
+pub stand_more : (w : Tables) (n m : ℕ) (rs new : List Request) → StandFirst w n rs → m ≡ n → new ≡ rs ++ For.CodeOf m ∷ [] → lam_needs w m ≡ [] → StandFirst w (n + 1) new
+stand_more w n m rs new h e pushed none = (
+  ap length pushed ∙ length-append rs (For.CodeOf m ∷ []) ∙ ap (λ k. k + 1) h.0,
+  λ l lt. by_place {P = (slice_get new l ≡ Some (For.CodeOf l)) × (lam_needs w l ≡ [])} l n lt
+      (λ less. (subst (λ zs. slice_get zs l ≡ Some (For.CodeOf l)) (sym pushed) (get_front rs (For.CodeOf m ∷ []) l (For.CodeOf l) (h.1 l less).0), (h.1 l less).1))
+      (λ same. (subst (λ zs. slice_get zs l ≡ Some (For.CodeOf l)) (sym pushed) (subst (λ k. slice_get (rs ++ For.CodeOf m ∷ []) l ≡ Some (For.CodeOf k)) (e ∙ sym same) (subst (λ k. slice_get (rs ++ For.CodeOf m ∷ []) k ≡ Some (For.CodeOf m)) (h.0 ∙ sym same) (at_end rs (For.CodeOf m)))), subst (λ k. lam_needs w k ≡ []) (e ∙ sym same) none)),
+)
+
+pub none_needed : (w : Tables) (l n : ℕ) (xs : List Var) → numbers xs ≡ lam_needs w l → n ≡ length xs → n ≤ 0 → lam_needs w l ≡ []
+none_needed w l n [] e f le = sym e
+none_needed w l n (x ∷ xs) e f le = absurd (omega (arith, f, le))
+
+-- ---- blocks
+
+module _ (cps : Cps) (w : Tables) where
+  pub record Fitted (work : Work) (blocks : List Block) (k : ℕ) (p : Purpose) : Type 0 where
+    pub block : Block
+    pub is : slice_get blocks k ≡ Some block
+    pub fits : Ever w work (λ v. BlockFits cps v p block)
+
+  pub record BlocksSoFar (old work : Work) (blocks : List Block) (place : ℕ) : Type 0 where
+    pub grows : Grows w old work
+    pub count : length blocks ≡ place
+    pub within : place ≤ length work.requests.items
+    pub fits : (k : ℕ) (p : Purpose) → k < place → slice_get (purposes_of w work.requests.items) k ≡ Some p → Fitted work blocks k p
+
+  pub blocks_none : (old : Work) (blocks : List Block) → blocks ≡ [] → BlocksSoFar old old blocks 0
+  blocks_none old blocks e = record { grows = record { requests = λ k x h. h; templates = λ k x h. h; next = omega arith }; count = ap length e; within = omega arith; fits = λ k p lt. absurd (omega (arith, lt)) }
+
+  pub blocks_more : (old mid new : Work) (blocks more : List Block) (place : ℕ) (r : Request) (b : Block) → BlocksSoFar old mid blocks place → slice_get mid.requests.items place ≡ Some r → IsBlockFor cps w mid new r b → more ≡ blocks ++ b ∷ [] → BlocksSoFar old new more (place + 1)
+  blocks_more old mid new blocks more place r b s asked laid pushed =
+      let here : slice_get (purposes_of w new.requests.items) place ≡ Some (purpose_of w r) = laid.grows.requests place (purpose_of w r) (slice_get-map (purpose_of w) mid.requests.items place ∙ ap (option_map (purpose_of w)) asked) in
+      record {
+        grows = grows_more w old mid new s.grows laid.grows;
+        count = ap length pushed ∙ length-append blocks (b ∷ []) ∙ ap (λ k. k + 1) s.count;
+        within = let lt = slice_get_within (purposes_of w new.requests.items) place (purpose_of w r) here in let e = length-map new.requests.items (purpose_of w) in omega (arith, lt, e);
+        fits = λ k p lt e. by_place {P = Fitted new more k p} k place lt
+            (λ less.
+            let found = some_at (purposes_of w mid.requests.items) k (let n = length-map mid.requests.items (purpose_of w) in let h = s.within in omega (arith, n, h, less)) in
+            let fit = s.fits k found.0 less found.1 in
+            let same = same_some found.0 p (sym (laid.grows.requests k found.0 found.1) ∙ e) in
+            record { block = fit.block; is = subst (λ zs. slice_get zs k ≡ Some fit.block) (sym pushed) (get_front blocks (b ∷ []) k fit.block fit.is); fits = subst (λ q. Ever w new (λ v. BlockFits cps v q fit.block)) same (later w mid new (λ v. BlockFits cps v found.0 fit.block) laid.grows fit.fits) })
+            (λ same.
+            let q = same_some (purpose_of w r) p (sym here ∙ subst (λ j. slice_get (purposes_of w new.requests.items) j ≡ Some p) same e) in
+            record { block = b; is = subst (λ zs. slice_get zs k ≡ Some b) (sym pushed) (subst (λ j. slice_get (blocks ++ b ∷ []) j ≡ Some b) (s.count ∙ sym same) (at_end blocks b)); fits = subst (λ z. Ever w new (λ v. BlockFits cps v z b)) q laid.fits });
+      }
+
+  pub blocks_all : (old new : Work) (blocks : List Block) (place : ℕ) → BlocksSoFar old new blocks place → length new.requests.items ≤ place → AreLaid cps w old new blocks
+  blocks_all old new blocks place s le = record {
+    grows = s.grows;
+    count = let c = s.count in let h = s.within in omega (arith, c, h, le);
+    fits = λ k p e.
+        let lt = slice_get_within (purposes_of w new.requests.items) k p e in
+        let n = length-map new.requests.items (purpose_of w) in
+        let fit = s.fits k p (omega (arith, lt, n, le)) e in
+        subst (λ o. IsSomeAnd o (λ b. Ever w new (λ v. BlockFits cps v p b))) (sym fit.is) fit.fits;
+  }
+
+  -- ---- all of it
+
+  some_more : {X : Type 0} (P Q : X → Type 0) (o : Option X) → ((x : X) → P x → Q x) → IsSomeAnd o P → IsSomeAnd o Q
+  some_more P Q None f h = h
+  some_more P Q (Some x) f h = f x h
+
+  pub laid_out : (one two three : Work) (p : Frames) (blocks : List Block) (vars : List Var) (site : Around) → w.first ≡ first_lams cps → ((l : ℕ) → length (lam_needs w l) ≤ cps.shared.size) → StandFirst w w.first one.requests.items → two.requests.items ≡ one.requests.items ++ For.Begins vars site cps.entry ∷ []
+      → p.entry ≡ length one.requests.items → vars ≡ [] → site ≡ record { joins = []; own = None; catches = [] } → AreLaid cps w two three blocks → p.blocks.items ≡ blocks → p.templates.items ≡ three.templates.items → p.shared ≡ cps.shared → ((x : ℕ) → is_assigned cps x ≡ false) → IsLaidOut cps p
+  laid_out one two three p blocks vars site first small stand asked entry none bare laid same templates shared unassigned =
+      let final = sketch_of w (purposes_of w three.requests.items) three.templates.items in
+      let start : Purpose = Begins (record { vars = []; exits = NoExit; catches = []; term = cps.entry }) in
+      let there : (k : ℕ) (r : Request) → slice_get two.requests.items k ≡ Some r → IsFor final k (purpose_of w r) = λ k r e. laid.grows.requests k (purpose_of w r) (slice_get-map (purpose_of w) two.requests.items k ∙ ap (option_map (purpose_of w)) e) in
+      record {
+        sketch = final;
+        shared = shared;
+        count = length-map three.requests.items (purpose_of w) ∙ laid.count ∙ ap length (sym same);
+        entry = subst (λ k. IsFor final k start) (sym entry)
+            (subst (λ a. IsFor final (length one.requests.items) (purpose_of w (For.Begins [] a cps.entry))) bare (subst (λ vs. IsFor final (length one.requests.items) (purpose_of w (For.Begins vs site cps.entry))) none
+            (there (length one.requests.items) (For.Begins vars site cps.entry) (subst (λ zs. slice_get zs (length one.requests.items) ≡ Some (For.Begins vars site cps.entry)) (sym asked) (at_end one.requests.items (For.Begins vars site cps.entry))))));
+        firsts = λ l lt. let h = stand.1 l (omega (arith, lt, first)) in
+            (there l (For.CodeOf l) (subst (λ zs. slice_get zs l ≡ Some (For.CodeOf l)) (sym asked) (get_front one.requests.items (For.Begins vars site cps.entry ∷ []) l (For.CodeOf l) h.0)), h.1);
+        blocks = λ k q e. subst (λ bs. IsSomeAnd (slice_get bs k) (BlockFits cps final q)) (sym same)
+            (some_more (λ b. Ever w three (λ v. BlockFits cps v q b)) (BlockFits cps final q) (slice_get blocks k) (λ b h. h (purposes_of w three.requests.items) three.templates.items (λ j x z. z) (λ j x z. z)) (laid.fits k q e));
+        small = small;
+        templates = templates;
+        unassigned = unassigned;
+      }

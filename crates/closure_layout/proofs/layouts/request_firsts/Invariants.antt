@@ -1,0 +1,5 @@
+use Rattle.closure_layout.specs.Steps.{StandFirst}
+use Rattle.closure_layout.proofs.layouts.request_firsts.Given as goal
+
+abbrev pub invariant-loop-place : goal.invariant-loop-place
+invariant-loop-place l = StandFirst l.tables l.place l.work.requests.items

@@ -1,0 +1,4 @@
+pub mod Around
+pub mod Sketches
+pub mod Steps
+pub mod Labelled
