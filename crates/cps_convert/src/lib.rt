@@ -1,0 +1,10 @@
+//! Conversion: a program in continuation-passing style that stands for a unit.
+#![tactic(auto)]
+
+mod conversion;
+mod operands;
+mod ready;
+mod terms;
+mod variables;
+
+pub use crate::conversion::Conversion;
