@@ -1,1 +1,3 @@
 mod Listing
+mod Spots
+mod Steps
