@@ -1,3 +1,5 @@
 mod Listing
 mod Spots
 mod Steps
+mod Own
+mod Bodies
