@@ -3,3 +3,4 @@ mod Spots
 mod Steps
 mod Own
 mod Bodies
+mod Blocks
