@@ -4,3 +4,4 @@ mod Steps
 mod Own
 mod Bodies
 mod Blocks
+mod Groups
