@@ -5,3 +5,4 @@ mod Own
 mod Bodies
 mod Blocks
 mod Groups
+mod Lets

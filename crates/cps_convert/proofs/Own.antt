@@ -70,7 +70,7 @@ abbrev pub NoneSet : UnitCore → List ℕ → List Var → Type 0
 NoneSet unit held [] = Unit {0}
 NoneSet unit held (v ∷ vars) = (is_assigned unit v ≡ true → is_in held v.0 ≡ false) × NoneSet unit held vars
 
-not_in_cons : (y v : ℕ) (held : List ℕ) → (y ≡ v → ⊥) → is_in held v ≡ false → is_in (y ∷ held) v ≡ false
+pub not_in_cons : (y v : ℕ) (held : List ℕ) → (y ≡ v → ⊥) → is_in held v ≡ false → is_in (y ∷ held) v ≡ false
 not_in_cons y v held apart e = ap (λ b. b || is_in held v) (ne_eqb y v apart) ∙ e
 
 pub none_held : (unit : UnitCore) (marks : List Bool) (base next form key : ℕ) (held : List ℕ) (vars : List Var) → Setting unit marks base → AreOuter unit base next form (suc key) held → AreOwn unit form key vars → NoneHeld held vars
@@ -79,13 +79,13 @@ none_held unit marks base next form key held (v ∷ vars) setting outs own =
     (own_apart unit marks base next form key v.0 held setting own.0 outs, none_held unit marks base next form key held vars setting outs own.2)
 
 -- a new variable more is held
-none_fresh : (unit : UnitCore) (marks : List Bool) (base form key y : ℕ) (held : List ℕ) (vars : List Var) → Setting unit marks base → base ≤ y → AreOwn unit form key vars → NoneHeld held vars → NoneHeld (y ∷ held) vars
+pub none_fresh : (unit : UnitCore) (marks : List Bool) (base form key y : ℕ) (held : List ℕ) (vars : List Var) → Setting unit marks base → base ≤ y → AreOwn unit form key vars → NoneHeld held vars → NoneHeld (y ∷ held) vars
 none_fresh unit marks base form key y held [] setting new own h = tt
 none_fresh unit marks base form key y held (v ∷ vars) setting new own h =
     let below : v.0 < base = setting.binders form key v.0 own.0 in
     (not_in_cons y v.0 held (λ e. omega (arith, e, below, new)) h.0, none_fresh unit marks base form key y held vars setting new own.2 h.1)
 
-adding_other : (vars : List Var) (n : ℕ) (held more : List ℕ) → is_in (adding vars (held)) n ≡ false → ((m : ℕ) → is_in more m ≡ true → is_in held m ≡ true) → is_in (adding vars more) n ≡ false
+pub adding_other : (vars : List Var) (n : ℕ) (held more : List ℕ) → is_in (adding vars (held)) n ≡ false → ((m : ℕ) → is_in more m ≡ true → is_in held m ≡ true) → is_in (adding vars more) n ≡ false
 adding_other [] n held more h sub = by (is_in more n) refl
   where
     by : (b : Bool) → is_in more n ≡ b → is_in more n ≡ false
@@ -94,7 +94,7 @@ adding_other [] n held more h sub = by (is_in more n) refl
 adding_other (v ∷ vars) n held more h sub = adding_other vars n (v.0 ∷ held) (v.0 ∷ more) h (λ m e. elim (in_cases v.0 m more e) [ | inl s ↦ subst (λ k. is_in (k ∷ held) m ≡ true) (sym (eqb-true v.0 m s)) (in_here m held) | inr r ↦ in_more v.0 m held (sub m r.1) ])
 
 -- one of the variables themselves more is held, which none of the others is
-none_own : (v : Var) (held : List ℕ) (vars : List Var) → is_in (adding vars []) v.0 ≡ false → NoneHeld held vars → NoneHeld (v.0 ∷ held) vars
+pub none_own : (v : Var) (held : List ℕ) (vars : List Var) → is_in (adding vars []) v.0 ≡ false → NoneHeld held vars → NoneHeld (v.0 ∷ held) vars
 none_own v held [] apart h = tt
 none_own v held (w ∷ vars) apart h =
     (not_in_cons v.0 w.0 held (λ e. true≢false (sym (in_adding vars v.0 (w.0 ∷ []) (subst (λ n. is_in (n ∷ []) v.0 ≡ true) e (in_here v.0 []))) ∙ apart)) h.0,
@@ -149,7 +149,7 @@ names_apart unit marks base next after (v ∷ vars) [] acc w setting first set o
 -- ---- assigned variables
 
 -- one more is held, which none of the others is
-set_more : (unit : UnitCore) (v : Var) (held : List ℕ) (vars : List Var) → is_in (adding vars []) v.0 ≡ false → NoneSet unit held vars → NoneSet unit (v.0 ∷ held) vars
+pub set_more : (unit : UnitCore) (v : Var) (held : List ℕ) (vars : List Var) → is_in (adding vars []) v.0 ≡ false → NoneSet unit held vars → NoneSet unit (v.0 ∷ held) vars
 set_more unit v held [] apart h = tt
 set_more unit v held (w ∷ vars) apart h =
     ((λ set. not_in_cons v.0 w.0 held (λ e. true≢false (sym (in_adding vars v.0 (w.0 ∷ []) (subst (λ n. is_in (n ∷ []) v.0 ≡ true) e (in_here v.0 []))) ∙ apart)) (h.0 set)),

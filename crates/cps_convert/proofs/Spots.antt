@@ -158,7 +158,7 @@ local_of unit (Node.Object proc methods) v e = cc
 local_of unit (Node.Call operator operands tail) v e = cc
 local_of unit (Node.Prim b operands) v e = cc
 
-ready_bound : (unit : UnitCore) (form key : ℕ) (bound : List ℕ) (a : Arg) → IsScopedIn unit form key bound → ready_of unit form key ≡ Some a → IsBound bound a
+pub ready_bound : (unit : UnitCore) (form key : ℕ) (bound : List ℕ) (a : Arg) → IsScopedIn unit form key bound → ready_of unit form key ≡ Some a → IsBound bound a
 ready_bound unit form key bound (Argument.Const c) h e = tt
 ready_bound unit form key bound (Argument.Var v) h e = by (node_at unit form key) refl e
   where
