@@ -40,17 +40,17 @@ apart_adding unit marks base next form key p [] held setting own out e = e
 apart_adding unit marks base next form key p (v ∷ vars) held setting own out e =
     apart_adding unit marks base next form key p vars (v.0 ∷ held) setting own.2 out (not_in_cons v.0 p held (outer_other unit marks base next form key v.0 p setting own.0 out) e)
 
-goes_inside : (x : Translation) (marks : List Bool) (base next form key : ℕ) (vars : List Var) (held : List ℕ) (k : Cont) → Setting x.unit marks base → AreOwn x.unit form key vars → GoesTo x base next form (suc key) held k
+pub goes_inside : (x : Translation) (marks : List Bool) (base next form key : ℕ) (vars : List Var) (held : List ℕ) (k : Cont) → Setting x.unit marks base → AreOwn x.unit form key vars → GoesTo x base next form (suc key) held k
     → GoesTo x base next form key (adding vars held) k
 goes_inside x marks base next form key vars held (Continuation.Var k) setting own h = tt
 goes_inside x marks base next form key vars held (Continuation.Lam param body) setting own h =
     (record { apart = apart_adding x.unit marks base next form key param.0 vars held setting own h.1 h.0.apart; unassigned = h.0.unassigned }, outer_more x.unit base next next form (suc key) key (omega arith) (omega arith) param.0 h.1)
 
-all_left : {X : Type 0} (P : X → Type 0) (xs ys : List X) → AllByRecursion P (xs ++ ys) → AllByRecursion P xs
+pub all_left : {X : Type 0} (P : X → Type 0) (xs ys : List X) → AllByRecursion P (xs ++ ys) → AllByRecursion P xs
 all_left P [] ys h = tt
 all_left P (x ∷ xs) ys h = (h.0, all_left P xs ys h.1)
 
-all_right : {X : Type 0} (P : X → Type 0) (xs ys : List X) → AllByRecursion P (xs ++ ys) → AllByRecursion P ys
+pub all_right : {X : Type 0} (P : X → Type 0) (xs ys : List X) → AllByRecursion P (xs ++ ys) → AllByRecursion P ys
 all_right P [] ys h = h
 all_right P (x ∷ xs) ys h = all_right P xs ys h.1
 

@@ -6,3 +6,4 @@ mod Bodies
 mod Blocks
 mod Groups
 mod Lets
+mod Labels

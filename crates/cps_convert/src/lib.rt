@@ -3,6 +3,7 @@
 
 mod conversion;
 mod operands;
+mod nodes;
 mod ready;
 mod terms;
 mod variables;
