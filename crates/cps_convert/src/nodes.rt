@@ -133,6 +133,7 @@ fn method(
     Ok(place)
 }
 
+/// The term of an IF: its arms with one continuation, and the test in front of them.
 #[cycle(nodes)]
 fn if_node(
     alloc: Global,
@@ -163,6 +164,7 @@ fn if_node(
     Ok(place)
 }
 
+/// The terms of a BLOCK: the last item with the continuation, each other one with a variable that is used nowhere.
 #[cycle(nodes)]
 fn block(
     alloc: Global,
@@ -194,6 +196,7 @@ fn block(
     Ok(place)
 }
 
+/// The terms of a LET: the body, the assigned variables in front of it, and all values in front of these.
 #[cycle(nodes)]
 fn let_node(
     alloc: Global,
@@ -220,6 +223,7 @@ fn let_node(
     Ok(place)
 }
 
+/// The terms of a LABELS: the body, the assigned names set in front of it, one Labels of all LAMBDAs, and what the assigned names have first.
 #[cycle(nodes)]
 fn labels(
     alloc: Global,
@@ -249,6 +253,7 @@ fn labels(
     Ok(place)
 }
 
+/// The terms of a CATCH: the body goes to the end of the catch, and from there to the continuation.
 #[cycle(nodes)]
 fn catch(
     alloc: Global,
@@ -285,6 +290,7 @@ fn catch(
     Ok(place)
 }
 
+/// The terms of an OBJECT: its methods are made first, then its procedure part is evaluated.
 #[cycle(nodes)]
 fn object(
     alloc: Global,
