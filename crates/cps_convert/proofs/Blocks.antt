@@ -1,32 +1,27 @@
 -- The steps of the conversion of CATCHes, BLOCKs and OBJECTs.
-use Rattle.std.proofs.Common.{◌≡◌, ℕ, zero, suc, ◌+◌, ◌-◌, ◌<◌, ◌≤◌, ◌⊎◌, ◌==◌, Bool, true, false, List, [], ◌∷◌, ◌++◌, map, length, take, drop, get_or, Option, Some, None, slice_get, refl, sym, ap, ◌∙◌, subst, arith, inl, inr}
-use Rattle.std.proofs.lemmas.List.{drop_more, take_more}
-use Rattle.std.specs.List.{flat_map, AllByRecursion}
+use Rattle.std.proofs.Common.{◌≡◌, ℕ, zero, suc, ◌+◌, ◌-◌, ◌<◌, ◌≤◌, Bool, List, [], ◌∷◌, length, drop, get_or, refl, sym, ap, ◌∙◌, subst, arith, inl}
+use Rattle.std.proofs.lemmas.List.{drop_more}
+use Rattle.std.specs.List.{AllByRecursion}
 use Rattle.t_base.specs.declared.basics.Var.{Var}
-use Rattle.t_core.specs.declared.forms.Core.{Core}
 use Rattle.t_core.specs.declared.forms.Core.TheVariants as Node
-use Rattle.t_core.specs.declared.forms.Method.{Method}
 use Rattle.t_core.specs.declared.forms.UnitCore.{UnitCore}
-use Rattle.t_core.specs.Nodes.{Part, part, early, block_parts}
-use Rattle.t_meaning.specs.Programs.{node_at}
-use Rattle.cps_ir.specs.declared.args.Arg.{Arg}
+use Rattle.t_core.specs.Nodes.{block_parts}
 use Rattle.cps_ir.specs.declared.args.Arg.TheVariants as Argument
 use Rattle.cps_ir.specs.declared.terms.Cont.{Cont}
 use Rattle.cps_ir.specs.declared.terms.Cont.TheVariants as Continuation
 use Rattle.cps_ir.specs.declared.terms.Term.TheVariants as Step
 use Rattle.cps_ir.specs.declared.terms.Cps.{Cps}
-use Rattle.cps_conversion.specs.Conversion.{Translation, Stands, IsNew, CatchAs, BlockAs, MethodsAs, ConvertsNode, ConvertsWithin, adding}
+use Rattle.cps_conversion.specs.Conversion.{IsNew, CatchAs, BlockAs, ConvertsWithin, adding}
 use Rattle.cps_convert.specs.declared.conversion.Conversion.{Conversion}
-use Rattle.cps_convert.specs.declared.operands.Job.{Job}
-use Rattle.cps_convert.specs.Growing.{Includes, GrowsTo, AddsTerm, AddsProcedure, TakesNew}
-use Rattle.cps_convert.specs.Claims.{IsBinder, Setting, IsOuter, AreOuter, AreOwn, IsScopedIn, Spot, GoesTo, Converted, LamConverted, translation}
-use Rattle.cps_convert.specs.Naming.{AreNames, AreNamed, IsName, IsNamed, BindsOne, BindsAll}
+use Rattle.cps_convert.specs.Growing.{Includes, GrowsTo, AddsTerm, TakesNew}
+use Rattle.cps_convert.specs.Claims.{Setting, AreOuter, IsScopedIn, GoesTo, Converted, translation}
+use Rattle.cps_convert.specs.Naming.{AreNames, IsNamed, BindsOne}
 use Rattle.cps_convert.specs.Kinds.{IsNameOf, Joined, KindConverted}
-use Rattle.cps_convert.proofs.Listing.{grows_same, grows_more}
-use Rattle.cps_convert.proofs.Spots.{are_more, outer_cons, fresh_new, goes_more, child, opened}
+use Rattle.cps_convert.proofs.Listing.{grows_more}
+use Rattle.cps_convert.proofs.Spots.{are_more, fresh_new, goes_more, child, opened}
 use Rattle.cps_convert.proofs.Own.{none_held, named_set, names_new, names_plain, assigned_from}
 use Rattle.cps_convert.proofs.Bodies.{own_all, outer_own}
-use Rattle.cps_convert.proofs.Steps.{with_name, name_goes, name_grows}
+use Rattle.cps_convert.proofs.Steps.{with_name}
 
 -- ---- CATCH
 
@@ -108,14 +103,13 @@ block_more unit marks form a b c d key item (next ∷ items) k unused place t h 
       let up_b : a.next ≤ b.next = h.grows.next in
       let up_c : a.next ≤ c.next = omega (arith, up_b, fresh.next) in
       let first_b : base ≤ b.next = omega (arith, first, up_b) in
-      let new : IsNew x held unused = fresh_new x marks base b.next form key unused held setting first_b (omega (arith, fresh.is)) (are_more unit base a.next b.next form key key up_b (omega arith) held helds) in
-      (
+      let new : IsNew x held unused = fresh_new x marks base b.next form key unused held setting first_b (omega (arith, fresh.is)) (are_more unit base a.next b.next form key key up_b (omega arith) held helds) in (
         unused,
         place,
         new,
         child x marks base c.next c.next form key item bound held (Continuation.Lam unused place) t (n.holds cps origins inc base) n.below (omega arith) setting (omega (arith, first, up_c)) scoped.0
-          (are_more unit base a.next c.next form key key up_c (omega arith) bound bounds) (are_more unit base a.next c.next form key key up_c (omega arith) held helds)
-          (new, inl (omega (arith, first_b, fresh.is), omega (arith, fresh.is, fresh.next))),
+            (are_more unit base a.next c.next form key key up_c (omega arith) bound bounds) (are_more unit base a.next c.next form key key up_c (omega arith) held helds)
+            (new, inl (omega (arith, first_b, fresh.is), omega (arith, fresh.is, fresh.next))),
         h.holds cps origins (fresh.grows.includes x (n.grows.includes x inc)) base setting bound held first bounds helds scoped.1 goes,
       );
 }

@@ -1,8 +1,6 @@
 -- The steps of the conversion of LAMBDAs, CATCHes and BLOCKs.
-use Rattle.std.proofs.Common.{◌≡◌, ℕ, zero, suc, ◌+◌, ◌<◌, ◌≤◌, ◌⊎◌, ◌==◌, Bool, true, false, ◌||◌, List, [], ◌∷◌, ◌++◌, map, length, drop, get_or, Option, Some, None, slice_get, Contains, refl, sym, ap, ◌∙◌, subst, arith, inl, inr}
+use Rattle.std.proofs.Common.{◌≡◌, ℕ, zero, suc, ◌≤◌, ◌⊎◌, Bool, true, false, List, [], ◌∷◌, length, Some, slice_get, Contains, refl, sym, ap, ◌∙◌, subst, arith, inl, inr}
 use Rattle.std.proofs.lemmas.Bool.{true≢false, eqb-true}
-use Rattle.std.proofs.lemmas.List.{drop_more}
-use Rattle.std.specs.List.{flat_map}
 use Rattle.t_base.specs.declared.basics.Var.{Var}
 use Rattle.t_core.specs.declared.forms.Core.{Core}
 use Rattle.t_core.specs.declared.forms.Core.TheVariants as Node
@@ -11,24 +9,20 @@ use Rattle.t_core.specs.Nodes.{binders_of}
 use Rattle.t_meaning.specs.Programs.{node_at}
 use Rattle.expand_laws.proofs.Standing.{StandsOnce, once_within}
 use Rattle.cps_ir.specs.declared.args.Arg.{Arg}
-use Rattle.cps_ir.specs.declared.args.Arg.TheVariants as Argument
 use Rattle.cps_ir.specs.declared.terms.Cont.{Cont}
 use Rattle.cps_ir.specs.declared.terms.Cont.TheVariants as Continuation
 use Rattle.cps_ir.specs.declared.terms.Lam.{Lam}
-use Rattle.cps_ir.specs.declared.terms.Term.TheVariants as Step
-use Rattle.cps_ir.specs.declared.terms.Cps.{Cps}
 use Rattle.cps_ir.specs.Reaches.{is_in}
-use Rattle.cps_conversion.specs.Conversion.{Translation, Stands, IsNew, LamAs, LambdaAt, LambdaFor, CatchAs, BlockAs, ConvertsNode, ConvertsWithin, adding, variables}
+use Rattle.cps_conversion.specs.Conversion.{Translation, LambdaAt, LambdaFor, ConvertsWithin, adding, variables}
 use Rattle.cps_conversion.proofs.Scopes.{in_cases}
 use Rattle.cps_convert.specs.declared.conversion.Conversion.{Conversion}
-use Rattle.cps_convert.specs.Growing.{Includes, GrowsTo, AddsTerm, AddsProcedure, TakesNew}
-use Rattle.cps_convert.specs.Claims.{IsBinder, Setting, IsOuter, AreOuter, AreOwn, IsScopedIn, Spot, GoesTo, Converted, LamConverted, translation}
-use Rattle.cps_convert.specs.Naming.{AreNames, AreNamed, IsNamed, BindsOne, BindsAll}
-use Rattle.cps_convert.specs.Kinds.{IsNameOf, Joined, GivesAs, Given, LambdaIs, LambdaMade, KindConverted}
-use Rattle.cps_convert.proofs.Listing.{grows_same, grows_more}
-use Rattle.cps_convert.proofs.Spots.{are_more, outer_cons, outer_adding, fresh_new, child, opened}
+use Rattle.cps_convert.specs.Growing.{AddsProcedure, TakesNew}
+use Rattle.cps_convert.specs.Claims.{IsBinder, Setting, AreOuter, AreOwn, IsScopedIn, GoesTo, Converted, LamConverted, translation}
+use Rattle.cps_convert.specs.Naming.{AreNames, AreNamed, BindsAll}
+use Rattle.cps_convert.specs.Kinds.{GivesAs, Given, LambdaIs, LambdaMade, KindConverted}
+use Rattle.cps_convert.proofs.Listing.{grows_more}
+use Rattle.cps_convert.proofs.Spots.{are_more, outer_adding, child, opened}
 use Rattle.cps_convert.proofs.Own.{form_of, once_in_form, none_held, named_set, names_new, names_plain, assigned_from}
-use Rattle.cps_convert.proofs.Steps.{with_name, name_goes}
 
 -- ---- variables of a node
 
@@ -37,7 +31,7 @@ in_adding_where [] n held e = inr e
 in_adding_where (v ∷ vars) n held e =
     elim (in_adding_where vars n (v.0 ∷ held) e) [
       | inl h ↦ inl (suc h.0, h.1, h.2, h.3)
-      | inr h ↦ elim (in_cases v.0 n held h) [ | inl s ↦ inl (0, v, refl, eqb-true v.0 n s) | inr r ↦ inr r.1 ]
+      | inr h ↦ elim (in_cases v.0 n held h) [ inl s ↦ inl (0, v, refl, eqb-true v.0 n s) | inr r ↦ inr r.1 ]
     ]
 
 own_from : (unit : UnitCore) (form key : ℕ) (vars : List Var) → ((i : ℕ) (v : Var) → slice_get vars i ≡ Some v → IsBinder unit form key v.0) → ((v : Var) → StandsOnce vars v) → AreOwn unit form key vars
@@ -47,9 +41,11 @@ own_from unit form key (v ∷ vars) f once =
   where
     twice : (j : ℕ) (w : Var) → slice_get vars j ≡ Some w → w.0 ≡ v.0 → ⊥
     twice j w at e = let same : w ≡ v = ap (λ n. record { 0 = n }) e in let far : 0 ≡ suc j = once v 0 (suc j) refl (subst (λ z. slice_get vars j ≡ Some z) same at) in omega (arith, far)
+
     none : ((j : ℕ) × (w : Var) × (slice_get vars j ≡ Some w) × (w.0 ≡ v.0)) ⊎ (false ≡ true) → ⊥
     none (inl h) = twice h.0 h.1 h.2 h.3
     none (inr e) = true≢false (sym e)
+
     by : (b : Bool) → is_in (adding vars []) v.0 ≡ b → is_in (adding vars []) v.0 ≡ false
     by true e = absurd (none (in_adding_where vars v.0 [] e))
     by false e = e
@@ -82,7 +78,7 @@ pub lam_converted : (unit : UnitCore) (marks : List Bool) (form : ℕ) (a b c d 
     → LamConverted unit marks form a e key params body (record { params = names; k = k; body = start })
 lam_converted unit marks form a b c d e key params names body k args first start named fresh done are binds =
     let all : BindsAll d e marks params (variables names) first start =
-        subst (λ l. BindsAll d e marks params l first start) are (binds (names_grow marks a.next b.next params names named.are ∙ ap length (sym are))) in
+    subst (λ l. BindsAll d e marks params l first start) are (binds (names_grow marks a.next b.next params names named.are ∙ ap length (sym are))) in
     record {
       grows = grows_more a b e named.grows (grows_more b c e fresh.grows (grows_more c d e done.grows all.grows));
       holds = λ cps origins inc base setting start_at bound own scoped outs.

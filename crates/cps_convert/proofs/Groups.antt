@@ -1,5 +1,5 @@
 -- The steps of the conversion of OBJECTs, and of the LAMBDAs of a LABELS.
-use Rattle.std.proofs.Common.{◌≡◌, ℕ, zero, suc, ◌+◌, ◌-◌, ◌<◌, ◌≤◌, ◌⊎◌, ◌==◌, Bool, true, false, List, [], ◌∷◌, ◌++◌, map, length, take, drop, get_or, Option, Some, None, slice_get, refl, sym, ap, ◌∙◌, subst, arith, inl, inr}
+use Rattle.std.proofs.Common.{◌≡◌, ℕ, suc, ◌+◌, ◌<◌, ◌≤◌, Bool, true, false, List, [], ◌∷◌, ◌++◌, map, length, take, get_or, Option, Some, None, refl, sym, ap, ◌∙◌, subst, arith}
 use Rattle.std.proofs.lemmas.Bool.{true≢false}
 use Rattle.std.proofs.lemmas.List.{take_more}
 use Rattle.std.specs.List.{flat_map, AllByRecursion}
@@ -8,21 +8,20 @@ use Rattle.t_core.specs.declared.forms.Core.{Core}
 use Rattle.t_core.specs.declared.forms.Core.TheVariants as Node
 use Rattle.t_core.specs.declared.forms.Method.{Method}
 use Rattle.t_core.specs.declared.forms.UnitCore.{UnitCore}
-use Rattle.t_core.specs.Nodes.{Part, part, early}
+use Rattle.t_core.specs.Nodes.{part}
 use Rattle.t_meaning.specs.Programs.{node_at}
 use Rattle.cps_ir.specs.declared.args.Arg.{Arg}
 use Rattle.cps_ir.specs.declared.terms.Cont.{Cont}
 use Rattle.cps_ir.specs.declared.terms.Lam.{Lam}
 use Rattle.cps_ir.specs.declared.terms.Term.TheVariants as Step
-use Rattle.cps_ir.specs.declared.terms.Cps.{Cps}
 use Rattle.cps_ir.specs.Reaches.{is_in}
-use Rattle.cps_conversion.specs.Conversion.{Translation, MethodsAs, LambdaAt, LambdaNode, LambdaNodes, ConvertsWithin, adding}
+use Rattle.cps_conversion.specs.Conversion.{Translation, MethodsAs, LambdaNode, LambdaNodes, ConvertsWithin, adding}
 use Rattle.cps_conversion.proofs.Scopes.{in_adding}
 use Rattle.cps_conversion.proofs.Deeper.{converts_deeper, lam_more}
 use Rattle.cps_convert.specs.declared.conversion.Conversion.{Conversion}
 use Rattle.cps_convert.specs.declared.operands.Job.{Job}
-use Rattle.cps_convert.specs.Growing.{Includes, GrowsTo, AddsTerm, AddsProcedure}
-use Rattle.cps_convert.specs.Claims.{Setting, AreOuter, AreOwn, IsScopedIn, Spot, LamClaim, LamConverted, translation}
+use Rattle.cps_convert.specs.Growing.{AddsTerm, AddsProcedure}
+use Rattle.cps_convert.specs.Claims.{Setting, AreOuter, AreOwn, IsScopedIn, LamClaim, LamConverted, translation}
 use Rattle.cps_convert.specs.Operands.{IsOperand, IsOperandAdded, JobsConverted}
 use Rattle.cps_convert.specs.Kinds.{LambdaIs, LambdaMade, LambdasAre, LambdasMade, MethodIs, MethodMade, MethodsAre, MethodsMade, KindConverted}
 use Rattle.cps_convert.proofs.Listing.{grows_same, grows_more, one_operand}
@@ -170,9 +169,11 @@ methods_as : (x : Translation) (marks : List Bool) (base now form key : ℕ) (bo
     → AreOwn x.unit form key (flat_map (λ m. m.params) methods) → AllByRecursion (λ p. IsScopedIn x.unit form p.at (adding p.binds bound)) (map (λ m. part m.body m.params true) methods)
     → MethodsAre x marks base now form key methods ops lams → MethodsAs x (ConvertsWithin x key) form bound methods ops lams
 methods_as x marks base now form key bound [] [] [] setting first outs own scoped h = tt
-methods_as x marks base now form key bound (m ∷ methods) (o ∷ ops) (l ∷ lams) setting first outs own scoped h =
-    (h.0, (h.1.0, h.1.1.lam, h.1.2 setting first bound (own_left x.unit form key m.params (flat_map (λ n. n.params) methods) own) scoped.0 outs),
-    methods_as x marks base now form key bound methods ops lams setting first outs (own_right x.unit form key m.params (flat_map (λ n. n.params) methods) own) scoped.1 h.2)
+methods_as x marks base now form key bound (m ∷ methods) (o ∷ ops) (l ∷ lams) setting first outs own scoped h = (
+  h.0,
+  (h.1.0, h.1.1.lam, h.1.2 setting first bound (own_left x.unit form key m.params (flat_map (λ n. n.params) methods) own) scoped.0 outs),
+  methods_as x marks base now form key bound methods ops lams setting first outs (own_right x.unit form key m.params (flat_map (λ n. n.params) methods) own) scoped.1 h.2,
+)
 methods_as x marks base now form key bound [] [] (l ∷ lams) setting first outs own scoped h = absurd h
 methods_as x marks base now form key bound [] (o ∷ ops) lams setting first outs own scoped h = absurd h
 methods_as x marks base now form key bound (m ∷ methods) [] lams setting first outs own scoped h = absurd h
@@ -194,8 +195,11 @@ object_converted unit marks form a b c d e key proc methods ops lams k arg jobs 
         lams = lams;
         methods_as = methods_as x marks base a.next form key bound methods ops lams setting spot.base_first spot.bound_outer (own_all unit marks base form key (Node.Object proc methods) setting there) o.parts.1
             (made.holds cps origins at_b base);
-        over = (arg, over x marks base a.next b.next c.next d.next form key bound held (proc ∷ []) (arg ∷ []) jobs (Step.Object arg ops lams k) t last setting spot.base_first made.grows.next (omega (arith, adds.next))
-          (are_more unit base a.next a.next form (suc key) key (omega arith) (omega arith) bound spot.bound_outer) (are_more unit base a.next a.next form (suc key) key (omega arith) (omega arith) held spot.held_outer) (o.parts.0, tt)
-          (one_operand unit form b.next c.next proc arg jobs (subst (λ l. IsOperand unit form b.next c.next proc arg l) (sym operand.after) operand.is)) (done.holds cps origins inc base) (adds.stands x at_d));
+        over = (
+          arg,
+          over x marks base a.next b.next c.next d.next form key bound held (proc ∷ []) (arg ∷ []) jobs (Step.Object arg ops lams k) t last setting spot.base_first made.grows.next (omega (arith, adds.next))
+              (are_more unit base a.next a.next form (suc key) key (omega arith) (omega arith) bound spot.bound_outer) (are_more unit base a.next a.next form (suc key) key (omega arith) (omega arith) held spot.held_outer) (o.parts.0, tt)
+              (one_operand unit form b.next c.next proc arg jobs (subst (λ l. IsOperand unit form b.next c.next proc arg l) (sym operand.after) operand.is)) (done.holds cps origins inc base) (adds.stands x at_d),
+        );
       };
 }

@@ -1,5 +1,5 @@
 -- The steps of the conversion of LABELS.
-use Rattle.std.proofs.Common.{◌≡◌, ℕ, zero, suc, ◌+◌, ◌<◌, ◌≤◌, ◌⊎◌, ◌==◌, Bool, true, false, if◌then◌else◌, List, [], ◌∷◌, ◌++◌, map, length, Option, Some, None, refl, sym, ap, ◌∙◌, subst, arith, inl, inr}
+use Rattle.std.proofs.Common.{◌≡◌, ℕ, suc, ◌<◌, ◌≤◌, ◌⊎◌, Bool, true, false, if◌then◌else◌, List, [], ◌∷◌, map, length, refl, sym, ap, ◌∙◌, subst, arith, inl, inr}
 use Rattle.std.proofs.lemmas.Bool.{true≢false}
 use Rattle.std.specs.List.{AllByRecursion}
 use Rattle.t_base.specs.declared.basics.Var.{Var}
@@ -11,20 +11,17 @@ use Rattle.t_meaning.specs.Costs.{is_assigned}
 use Rattle.cps_ir.specs.declared.args.Arg.{Arg}
 use Rattle.cps_ir.specs.declared.args.Arg.TheVariants as Argument
 use Rattle.cps_ir.specs.declared.terms.Cont.{Cont}
-use Rattle.cps_ir.specs.declared.terms.Cont.TheVariants as Continuation
 use Rattle.cps_ir.specs.declared.terms.Term.TheVariants as Step
-use Rattle.cps_ir.specs.declared.terms.Cps.{Cps}
 use Rattle.cps_ir.specs.Reaches.{is_in}
-use Rattle.cps_walk.specs.Marked.{is_marked}
-use Rattle.cps_conversion.specs.Conversion.{Translation, IsNew, AreNew, Names, Sets, LabelsAs, ConvertsWithin, adding, adding_assigned, unset}
+use Rattle.cps_conversion.specs.Conversion.{Translation, IsNew, AreNew, Names, Sets, adding, adding_assigned, unset}
 use Rattle.cps_convert.specs.declared.conversion.Conversion.{Conversion}
-use Rattle.cps_convert.specs.Growing.{Includes, GrowsTo, AddsTerm}
-use Rattle.cps_convert.specs.Claims.{HasMarks, IsBinder, Setting, IsOuter, AreOuter, AreOwn, IsScopedIn, Spot, GoesTo, Converted, translation}
+use Rattle.cps_convert.specs.Growing.{AddsTerm}
+use Rattle.cps_convert.specs.Claims.{HasMarks, Setting, AreOuter, AreOwn, IsScopedIn, Converted, translation}
 use Rattle.cps_convert.specs.Naming.{IsName, AreNames, AreNamed, unset_by, AreBoundTo, BindsAll, IsSetTo, AreSetTo, SetsAll}
 use Rattle.cps_convert.specs.Kinds.{LambdasMade, KindConverted}
-use Rattle.cps_convert.proofs.Listing.{grows_same, grows_more}
+use Rattle.cps_convert.proofs.Listing.{grows_more}
 use Rattle.cps_convert.proofs.Spots.{are_more, outer_cons, fresh_new, child, opened}
-use Rattle.cps_convert.proofs.Own.{NoneHeld, not_in_cons, none_held, none_set, set_more, adding_other, ArePlain, assigned_from}
+use Rattle.cps_convert.proofs.Own.{NoneHeld, not_in_cons, none_held, none_set, adding_other, ArePlain, assigned_from}
 use Rattle.cps_convert.proofs.Bodies.{own_all, outer_own}
 use Rattle.cps_convert.proofs.Groups.{lambda_nodes}
 use Rattle.cps_convert.proofs.Lets.{goes_inside, all_left, all_right}
@@ -45,9 +42,10 @@ free_fresh unit marks base form key y held (v ∷ vars) setting new own h =
 
 free_own : (unit : UnitCore) (v : Var) (held : List ℕ) (vars : List Var) → is_in (adding vars []) v.0 ≡ false → NoneFree unit held vars → NoneFree unit (v.0 ∷ held) vars
 free_own unit v held [] apart h = tt
-free_own unit v held (w ∷ vars) apart h =
-    ((λ free. not_in_cons v.0 w.0 held (λ e. true≢false (sym (in_adding vars v.0 (w.0 ∷ []) (subst (λ n. is_in (n ∷ []) v.0 ≡ true) e (in_here v.0 []))) ∙ apart)) (h.0 free)),
-    free_own unit v held vars (adding_other vars v.0 (w.0 ∷ []) [] apart (λ m e. absurd (true≢false (sym e)))) h.1)
+free_own unit v held (w ∷ vars) apart h = (
+  (λ free. not_in_cons v.0 w.0 held (λ e. true≢false (sym (in_adding vars v.0 (w.0 ∷ []) (subst (λ n. is_in (n ∷ []) v.0 ≡ true) e (in_here v.0 []))) ∙ apart)) (h.0 free)),
+  free_own unit v held vars (adding_other vars v.0 (w.0 ∷ []) [] apart (λ m e. absurd (true≢false (sym e)))) h.1,
+)
 
 names_free : (x : Translation) (marks : List Bool) (base next after form key : ℕ) (vars names : List Var) (acc : List ℕ) → Setting x.unit marks base → base ≤ next → AreOuter x.unit base next form key acc
     → AreOwn x.unit form key vars → NoneFree x.unit acc vars → AreNames marks next after vars names → AreNew x acc names × AreOuter x.unit base after form key (adding names acc)

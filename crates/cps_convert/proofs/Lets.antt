@@ -1,31 +1,27 @@
 -- The steps of the conversion of LETs and LABELS.
-use Rattle.std.proofs.Common.{◌≡◌, ℕ, zero, suc, ◌+◌, ◌<◌, ◌≤◌, ◌⊎◌, ◌==◌, Bool, true, false, if◌then◌else◌, List, [], ◌∷◌, ◌++◌, map, length, Option, Some, None, refl, sym, ap, ◌∙◌, subst, arith, inl, inr}
+use Rattle.std.proofs.Common.{◌≡◌, ℕ, suc, ◌<◌, ◌≤◌, Bool, true, false, if◌then◌else◌, List, [], ◌∷◌, ◌++◌, map, length, Some, None, refl, sym, ap, ◌∙◌, subst, arith, inl, inr}
 use Rattle.std.proofs.lemmas.Bool.{true≢false}
 use Rattle.std.specs.List.{AllByRecursion}
 use Rattle.t_base.specs.declared.basics.Var.{Var}
 use Rattle.t_core.specs.declared.forms.Core.TheVariants as Node
 use Rattle.t_core.specs.declared.forms.UnitCore.{UnitCore}
-use Rattle.t_core.specs.Nodes.{Part, part, early}
+use Rattle.t_core.specs.Nodes.{part, early}
 use Rattle.t_meaning.specs.Costs.{is_assigned}
 use Rattle.cps_ir.specs.declared.args.Arg.{Arg}
 use Rattle.cps_ir.specs.declared.args.Arg.TheVariants as Argument
 use Rattle.cps_ir.specs.declared.terms.Cont.{Cont}
 use Rattle.cps_ir.specs.declared.terms.Cont.TheVariants as Continuation
-use Rattle.cps_ir.specs.declared.terms.Term.TheVariants as Step
-use Rattle.cps_ir.specs.declared.terms.Cps.{Cps}
 use Rattle.cps_ir.specs.Reaches.{is_in}
-use Rattle.cps_walk.specs.Marked.{is_marked}
-use Rattle.cps_conversion.specs.Conversion.{Translation, Converting, IsNew, AreNew, Values, Assigned, Names, Sets, LetAs, LabelsAs, ConvertsWithin, adding, adding_assigned, own_place, unset, ready_at}
+use Rattle.cps_conversion.specs.Conversion.{Translation, Converting, IsNew, Values, ConvertsWithin, adding, own_place}
 use Rattle.cps_convert.specs.declared.conversion.Conversion.{Conversion}
 use Rattle.cps_convert.specs.declared.operands.Job.{Job}
-use Rattle.cps_convert.specs.Growing.{Includes, GrowsTo, AddsTerm}
-use Rattle.cps_convert.specs.Claims.{HasMarks, IsBinder, Setting, IsOuter, AreOuter, AreOwn, IsScopedIn, Spot, GoesTo, Converted, translation}
-use Rattle.cps_convert.specs.Operands.{ready_of, IsOperand, IsLet, AreLets, AreLetsAdded, vars_of, Evaluates, CanEvaluate, JobsConverted}
-use Rattle.cps_convert.specs.Naming.{IsName, AreNames, AreNamed, unset_by, AreBoundTo, BindsAll, IsSetTo, AreSetTo, SetsAll}
-use Rattle.cps_convert.specs.Kinds.{LambdasMade, KindConverted}
-use Rattle.cps_convert.proofs.Listing.{grows_same, grows_more}
-use Rattle.cps_convert.proofs.Spots.{outer_more, are_more, outer_cons, fresh_new, goes_more, child, opened, ready_bound}
-use Rattle.cps_convert.proofs.Own.{one_binder, NoneHeld, NoneSet, not_in_cons, none_held, none_fresh, none_own, none_set, names_apart, adding_other, ArePlain, assigned_from}
+use Rattle.cps_convert.specs.Claims.{IsBinder, Setting, IsOuter, AreOuter, AreOwn, IsScopedIn, GoesTo, Converted, translation}
+use Rattle.cps_convert.specs.Operands.{IsLet, AreLets, AreLetsAdded, vars_of, Evaluates, CanEvaluate, JobsConverted}
+use Rattle.cps_convert.specs.Naming.{BindsAll}
+use Rattle.cps_convert.specs.Kinds.{KindConverted}
+use Rattle.cps_convert.proofs.Listing.{grows_more}
+use Rattle.cps_convert.proofs.Spots.{outer_more, are_more, outer_cons, fresh_new, child, opened, ready_bound}
+use Rattle.cps_convert.proofs.Own.{one_binder, NoneHeld, NoneSet, not_in_cons, none_held, none_fresh, none_own, ArePlain, assigned_from}
 use Rattle.cps_convert.proofs.Bodies.{own_all, outer_own}
 
 -- ---- the parameter of the continuation

@@ -1,5 +1,5 @@
 -- Variables that a node binds: each is bound there alone, and what stands in place of the assigned ones.
-use Rattle.std.proofs.Common.{◌≡◌, ℕ, zero, suc, ◌+◌, ◌<◌, ◌≤◌, ◌⊎◌, ◌==◌, Bool, true, false, ◌||◌, List, [], ◌∷◌, ◌++◌, map, Option, Some, None, slice_get, option_and_then, refl, sym, ap, ◌∙◌, subst, arith, inl, inr, ne_eqb}
+use Rattle.std.proofs.Common.{◌≡◌, ℕ, suc, ◌<◌, ◌≤◌, Bool, true, false, ◌||◌, List, [], ◌∷◌, Option, Some, None, slice_get, option_and_then, refl, sym, ap, ◌∙◌, subst, arith, inl, inr, ne_eqb}
 use Rattle.std.proofs.lemmas.Bool.{true≢false, eqb-true}
 use Rattle.std.specs.List.{flat_map}
 use Rattle.t_base.specs.declared.basics.Var.{Var}
@@ -14,12 +14,11 @@ use Rattle.expand_laws.proofs.Standing.{StandsOnce, once_within, one_piece, once
 use Rattle.cps_ir.specs.declared.args.Arg.{Arg}
 use Rattle.cps_ir.specs.declared.args.Arg.TheVariants as Argument
 use Rattle.cps_ir.specs.Reaches.{is_in}
-use Rattle.cps_walk.specs.Marked.{is_marked}
 use Rattle.cps_conversion.specs.Conversion.{Translation, IsNew, AreNew, Assigned, adding, variables}
 use Rattle.cps_conversion.proofs.Scopes.{in_here, in_more, in_cases, in_adding}
 use Rattle.cps_convert.specs.Claims.{HasMarks, IsBinder, Setting, IsOuter, AreOuter, AreOwn}
 use Rattle.cps_convert.specs.Naming.{IsName, AreNames, IsBoundTo, AreBoundTo}
-use Rattle.cps_convert.proofs.Spots.{outer_more, are_more, outer_cons, fresh_new}
+use Rattle.cps_convert.proofs.Spots.{are_more, outer_cons, fresh_new}
 
 -- ---- once in the unit
 
@@ -54,6 +53,7 @@ own_apart unit marks base next form key v held setting own outs = by (is_in held
     none : IsOuter unit base next form (suc key) v → ⊥
     none (inl o) = let below : v < base = setting.binders form key v own in omega (arith, below, o.0)
     none (inr o) = let same : o.0 ≡ key = one_binder unit marks base form o.0 key v setting o.2 own in omega (arith, same, o.1)
+
     by : (b : Bool) → is_in held v ≡ b → is_in held v ≡ false
     by true e = absurd (none (outs v e))
     by false e = e
@@ -91,14 +91,15 @@ adding_other [] n held more h sub = by (is_in more n) refl
     by : (b : Bool) → is_in more n ≡ b → is_in more n ≡ false
     by true e = absurd (true≢false (sym (sub n e) ∙ h))
     by false e = e
-adding_other (v ∷ vars) n held more h sub = adding_other vars n (v.0 ∷ held) (v.0 ∷ more) h (λ m e. elim (in_cases v.0 m more e) [ | inl s ↦ subst (λ k. is_in (k ∷ held) m ≡ true) (sym (eqb-true v.0 m s)) (in_here m held) | inr r ↦ in_more v.0 m held (sub m r.1) ])
+adding_other (v ∷ vars) n held more h sub = adding_other vars n (v.0 ∷ held) (v.0 ∷ more) h (λ m e. elim (in_cases v.0 m more e) [ inl s ↦ subst (λ k. is_in (k ∷ held) m ≡ true) (sym (eqb-true v.0 m s)) (in_here m held) | inr r ↦ in_more v.0 m held (sub m r.1) ])
 
 -- one of the variables themselves more is held, which none of the others is
 pub none_own : (v : Var) (held : List ℕ) (vars : List Var) → is_in (adding vars []) v.0 ≡ false → NoneHeld held vars → NoneHeld (v.0 ∷ held) vars
 none_own v held [] apart h = tt
-none_own v held (w ∷ vars) apart h =
-    (not_in_cons v.0 w.0 held (λ e. true≢false (sym (in_adding vars v.0 (w.0 ∷ []) (subst (λ n. is_in (n ∷ []) v.0 ≡ true) e (in_here v.0 []))) ∙ apart)) h.0,
-    none_own v held vars (adding_other vars v.0 (w.0 ∷ []) [] apart (λ m e. absurd (true≢false (sym e)))) h.1)
+none_own v held (w ∷ vars) apart h = (
+  not_in_cons v.0 w.0 held (λ e. true≢false (sym (in_adding vars v.0 (w.0 ∷ []) (subst (λ n. is_in (n ∷ []) v.0 ≡ true) e (in_here v.0 []))) ∙ apart)) h.0,
+  none_own v held vars (adding_other vars v.0 (w.0 ∷ []) [] apart (λ m e. absurd (true≢false (sym e)))) h.1,
+)
 
 -- ---- names
 
@@ -113,18 +114,20 @@ names_new x marks base next after form key (v ∷ vars) (y ∷ names) acc settin
     by (inl n) go =
         let is : y.0 ≡ next = n.1 in
         let up : next < h.0 = n.2 in
-        let new : base ≤ y.0 = omega (arith, first, is) in
-        (fresh_new x marks base next form key y acc setting first (omega (arith, is)) outs,
-        go (omega (arith, first, up)) (outer_cons x.unit base h.0 form key y.0 acc (inl (new, omega (arith, is, up))) (are_more x.unit base next h.0 form key key (omega (arith, up)) (omega arith) acc outs))
-        (none_fresh x.unit marks base form key y.0 acc vars setting new own.2 none.1))
+        let new : base ≤ y.0 = omega (arith, first, is) in (
+          fresh_new x marks base next form key y acc setting first (omega (arith, is)) outs,
+          go (omega (arith, first, up)) (outer_cons x.unit base h.0 form key y.0 acc (inl (new, omega (arith, is, up))) (are_more x.unit base next h.0 form key key (omega (arith, up)) (omega arith) acc outs))
+              (none_fresh x.unit marks base form key y.0 acc vars setting new own.2 none.1),
+        )
     by (inr n) go =
         let same : v ≡ y = sym n.1 in
-        let up : h.0 ≡ next = n.2 in
-        (record { apart = subst (λ w. is_in acc w.0 ≡ false) same none.0; unassigned = subst (λ w. is_assigned x.unit w ≡ false) same (sym (setting.marked v) ∙ n.0) },
-        go (omega (arith, first, up))
-        (subst (λ w. AreOuter x.unit base h.0 form key (w.0 ∷ acc)) same
-        (outer_cons x.unit base h.0 form key v.0 acc (inr (key, omega arith, own.0)) (are_more x.unit base next h.0 form key key (omega (arith, up)) (omega arith) acc outs)))
-        (subst (λ w. NoneHeld (w.0 ∷ acc) vars) same (none_own v acc vars own.1 none.1)))
+        let up : h.0 ≡ next = n.2 in (
+          record { apart = subst (λ w. is_in acc w.0 ≡ false) same none.0; unassigned = subst (λ w. is_assigned x.unit w ≡ false) same (sym (setting.marked v) ∙ n.0) },
+          go (omega (arith, first, up))
+              (subst (λ w. AreOuter x.unit base h.0 form key (w.0 ∷ acc)) same
+              (outer_cons x.unit base h.0 form key v.0 acc (inr (key, omega arith, own.0)) (are_more x.unit base next h.0 form key key (omega (arith, up)) (omega arith) acc outs)))
+              (subst (λ w. NoneHeld (w.0 ∷ acc) vars) same (none_own v acc vars own.1 none.1)),
+        )
 names_new x marks base next after form key [] (y ∷ names) acc setting first outs own none h = absurd h
 names_new x marks base next after form key (v ∷ vars) [] acc setting first outs own none h = absurd h
 
@@ -151,9 +154,10 @@ names_apart unit marks base next after (v ∷ vars) [] acc w setting first set o
 -- one more is held, which none of the others is
 pub set_more : (unit : UnitCore) (v : Var) (held : List ℕ) (vars : List Var) → is_in (adding vars []) v.0 ≡ false → NoneSet unit held vars → NoneSet unit (v.0 ∷ held) vars
 set_more unit v held [] apart h = tt
-set_more unit v held (w ∷ vars) apart h =
-    ((λ set. not_in_cons v.0 w.0 held (λ e. true≢false (sym (in_adding vars v.0 (w.0 ∷ []) (subst (λ n. is_in (n ∷ []) v.0 ≡ true) e (in_here v.0 []))) ∙ apart)) (h.0 set)),
-    set_more unit v held vars (adding_other vars v.0 (w.0 ∷ []) [] apart (λ m e. absurd (true≢false (sym e)))) h.1)
+set_more unit v held (w ∷ vars) apart h = (
+  (λ set. not_in_cons v.0 w.0 held (λ e. true≢false (sym (in_adding vars v.0 (w.0 ∷ []) (subst (λ n. is_in (n ∷ []) v.0 ≡ true) e (in_here v.0 []))) ∙ apart)) (h.0 set)),
+  set_more unit v held vars (adding_other vars v.0 (w.0 ∷ []) [] apart (λ m e. absurd (true≢false (sym e)))) h.1,
+)
 
 -- an argument for a variable that isn't assigned is the variable
 abbrev pub ArePlain : UnitCore → List Var → List Arg → Type 0

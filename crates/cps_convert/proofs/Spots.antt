@@ -1,6 +1,6 @@
 -- What the parts of a node need, from what the node has.
-use Rattle.std.proofs.Common.{◌≡◌, ℕ, zero, suc, ◌+◌, ◌<◌, ◌≤◌, ◌⊎◌, ◌==◌, Bool, true, false, List, [], ◌∷◌, ◌++◌, length, Option, Some, None, slice_get, Contains, IsSomeAnd, option_and_then, if◌then◌else◌, refl, sym, ap, ◌∙◌, subst, arith, inl, inr}
-use Rattle.std.proofs.lemmas.Bool.{true≢false, eqb-true}
+use Rattle.std.proofs.Common.{◌≡◌, ℕ, zero, suc, ◌<◌, ◌≤◌, Bool, true, false, List, [], ◌∷◌, ◌++◌, Option, Some, None, slice_get, Contains, IsSomeAnd, option_and_then, if◌then◌else◌, refl, sym, ap, ◌∙◌, subst, arith, inl, inr}
+use Rattle.std.proofs.lemmas.Bool.{eqb-true}
 use Rattle.std.proofs.lemmas.List.Elements.{Contains-append_cases}
 use Rattle.std.specs.List.{AllByRecursion}
 use Rattle.std.specs.Option.{option_map_or}
@@ -9,7 +9,7 @@ use Rattle.t_core.specs.declared.forms.Core.{Core}
 use Rattle.t_core.specs.declared.forms.Core.TheVariants as Node
 use Rattle.t_core.specs.declared.forms.Form.{Form}
 use Rattle.t_core.specs.declared.forms.UnitCore.{UnitCore}
-use Rattle.t_core.specs.Nodes.{Part, parts_of, binders_of}
+use Rattle.t_core.specs.Nodes.{Part, parts_of}
 use Rattle.t_core.specs.Whole.{IsInPlace, IsScopedWithin}
 use Rattle.t_meaning.specs.Programs.{node_at}
 use Rattle.t_meaning.specs.Costs.{is_assigned}
@@ -20,11 +20,11 @@ use Rattle.cps_ir.specs.declared.terms.Cont.TheVariants as Continuation
 use Rattle.cps_ir.specs.declared.terms.Term.{Term}
 use Rattle.cps_ir.specs.Reaches.{is_in}
 use Rattle.cps_conversion.specs.Conversion.{Translation, Converting, Stands, IsNew, IsBound, Values, nowhere, OverAll, ConvertsWithin, adding, is_proc, ready_arg}
-use Rattle.cps_conversion.proofs.Scopes.{in_here, in_more, in_cases, in_adding}
+use Rattle.cps_conversion.proofs.Scopes.{in_here, in_cases, in_adding}
 use Rattle.cps_conversion.proofs.Deeper.{converts_deeper}
 use Rattle.cps_convert.specs.declared.operands.Job.{Job}
 use Rattle.cps_convert.specs.Operands.{ready_of, IsOperand, AreOperands, vars_of, Evaluates, CanEvaluate, JobsClaim}
-use Rattle.cps_convert.specs.Claims.{IsBinder, Setting, IsOuter, AreOuter, AreOwn, IsScopedIn, nodes_of, GoesTo, NodeClaim}
+use Rattle.cps_convert.specs.Claims.{Setting, IsOuter, AreOuter, IsScopedIn, nodes_of, GoesTo, NodeClaim}
 
 -- ---- outer variables
 
@@ -37,7 +37,7 @@ are_more unit base next more form least less up down held h v e = outer_more uni
 
 pub outer_cons : (unit : UnitCore) (base next form least v : ℕ) (held : List ℕ) → IsOuter unit base next form least v → AreOuter unit base next form least held → AreOuter unit base next form least (v ∷ held)
 outer_cons unit base next form least v held o h w e =
-    elim (in_cases v w held e) [ | inl s ↦ subst (IsOuter unit base next form least) (eqb-true v w s) o | inr r ↦ h w r.1 ]
+    elim (in_cases v w held e) [ inl s ↦ subst (IsOuter unit base next form least) (eqb-true v w s) o | inr r ↦ h w r.1 ]
 
 pub outer_adding : (unit : UnitCore) (base next form least : ℕ) (vars : List Var) (held : List ℕ) → ((v : Var) → Contains vars v → IsOuter unit base next form least v.0) → AreOuter unit base next form least held
     → AreOuter unit base next form least (adding vars held)
@@ -53,6 +53,7 @@ fresh_apart unit marks base next form least v held setting first new h = by (is_
     none : IsOuter unit base next form least v → ⊥
     none (inl o) = omega (arith, new, o.1)
     none (inr o) = let below : v < base = setting.binders form o.0 v o.2 in omega (arith, below, first, new)
+
     by : (b : Bool) → is_in held v ≡ b → is_in held v ≡ false
     by true e = absurd (none (h v e))
     by false e = e
@@ -102,7 +103,7 @@ in_adding_var (v ∷ vars) w held (zero, below, e) = in_adding vars w.0 (v.0 ∷
 in_adding_var (v ∷ vars) w held (suc i, below, e) = in_adding_var vars w (v.0 ∷ held) (i, omega (arith, below), e)
 
 scoped_binds : (binds scope : List Var) (bound : List ℕ) → ((v : Var) → Contains scope v → is_in bound v.0 ≡ true) → (v : Var) → Contains (binds ++ scope) v → is_in (adding binds bound) v.0 ≡ true
-scoped_binds binds scope bound f v c = elim (Contains-append_cases binds scope v c) [ | inl h ↦ in_adding_var binds v bound h | inr h ↦ in_adding binds v.0 bound (f v h) ]
+scoped_binds binds scope bound f v c = elim (Contains-append_cases binds scope v c) [ inl h ↦ in_adding_var binds v bound h | inr h ↦ in_adding binds v.0 bound (f v h) ]
 
 -- the node itself, in its scope, and its parts
 pub record Opened (unit : UnitCore) (form : ℕ) (bound : List ℕ) (node : Core) : Type 0 where
@@ -200,13 +201,12 @@ can_evaluate x marks base most form key next after bound held (c ∷ keys) (a �
         let is : v.0 ≡ next = o.1.2 in
         let more : next < h.0 = o.1.4 in
         let start : base ≤ v.0 = omega (arith, first, is) in
-        subst (λ l. CanEvaluate x base most form key bound held (l ++ h.2)) (sym o.1.3)
-        (
+        subst (λ l. CanEvaluate x base most form key bound held (l ++ h.2)) (sym o.1.3) (
           fresh_new x marks base next form key v held setting first (omega (arith, is)) helds,
           inl (start, omega (arith, is, more, le, few)),
           scoped.0,
           go h.0 (v.0 ∷ held) (omega (arith, first, more))
-            (outer_cons x.unit base h.0 form key v.0 held (inl (start, omega (arith, is, more))) (are_more x.unit base next h.0 form key key (omega (arith, more)) (omega arith) held helds)) h.5,
+              (outer_cons x.unit base h.0 form key v.0 held (inl (start, omega (arith, is, more))) (are_more x.unit base next h.0 form key key (omega (arith, more)) (omega arith) held helds)) h.5,
         )
 can_evaluate x marks base most form key next after bound held [] (a ∷ args) jobs setting first few helds scoped h = absurd h
 can_evaluate x marks base most form key next after bound held (c ∷ keys) [] jobs setting first few helds scoped h = absurd h

@@ -1,5 +1,5 @@
 -- The steps of the conversion of a node.
-use Rattle.std.proofs.Common.{◌≡◌, ℕ, zero, suc, ◌+◌, ◌<◌, ◌≤◌, ◌⊎◌, Bool, true, false, List, [], ◌∷◌, ◌++◌, map, Option, Some, None, slice_get, refl, sym, ap, ◌∙◌, subst, arith, inl, inr}
+use Rattle.std.proofs.Common.{◌≡◌, ℕ, suc, ◌<◌, ◌≤◌, Bool, false, List, [], ◌∷◌, map, Option, Some, None, slice_get, refl, sym, ap, subst, arith}
 use Rattle.std.specs.Prelude.{All, option_map, option_and_then}
 use Rattle.std.specs.Option.{option_map_or}
 use Rattle.std.specs.List.{AllByRecursion}
@@ -9,28 +9,25 @@ use Rattle.t_base.specs.declared.shared_parts.GlobalKind.TheVariants.{Variable}
 use Rattle.cps_ir.specs.Parts.{is_procedure, is_proc as is_proc_kind}
 use Rattle.t_core.specs.declared.forms.Form.{Form}
 use Rattle.t_core.specs.Whole.{HasShapes, IsShaped}
-use Rattle.t_base.specs.declared.basics.Var.{Var}
 use Rattle.t_core.specs.declared.forms.Core.{Core}
 use Rattle.t_core.specs.declared.forms.Core.TheVariants as Node
 use Rattle.t_core.specs.declared.forms.UnitCore.{UnitCore}
 use Rattle.t_core.specs.Nodes.{early}
 use Rattle.t_meaning.specs.Programs.{node_at}
 use Rattle.cps_ir.specs.declared.args.Arg.{Arg}
-use Rattle.cps_ir.specs.declared.args.Arg.TheVariants as Argument
 use Rattle.cps_ir.specs.declared.terms.Cont.{Cont}
 use Rattle.cps_ir.specs.declared.terms.Cont.TheVariants as Continuation
 use Rattle.cps_ir.specs.declared.terms.Term.{Term}
 use Rattle.cps_ir.specs.declared.terms.Term.TheVariants as Step
-use Rattle.cps_ir.specs.declared.terms.Cps.{Cps}
 use Rattle.cps_conversion.specs.Conversion.{Translation, Stands, OverAll, WithName, IfAs, ConvertsNode, ConvertsWithin, is_proc, adding}
 use Rattle.cps_convert.specs.declared.conversion.Conversion.{Conversion}
 use Rattle.cps_convert.specs.declared.operands.Job.{Job}
-use Rattle.cps_convert.specs.Growing.{Includes, GrowsTo, AddsTerm}
-use Rattle.cps_convert.specs.Claims.{Setting, AreOuter, IsScopedIn, Spot, GoesTo, NodeClaim, Converted, translation}
+use Rattle.cps_convert.specs.Growing.{AddsTerm}
+use Rattle.cps_convert.specs.Claims.{Setting, AreOuter, IsScopedIn, Spot, GoesTo, Converted, translation}
 use Rattle.cps_convert.specs.Operands.{IsOperand, IsOperandAdded, AreOperands, Evaluates, CanEvaluate, JobsClaim, JobsConverted}
 use Rattle.cps_convert.specs.Kinds.{LastAs, LastMade, HasName, IsNameOf, JoinsAs, Joined, KindConverted}
 use Rattle.cps_convert.proofs.Listing.{grows_same, grows_more, one_operand}
-use Rattle.cps_convert.proofs.Spots.{are_more, outer_cons, goes_more, child, Opened, opened, over}
+use Rattle.cps_convert.proofs.Spots.{are_more, outer_cons, child, opened, over}
 
 -- ---- jobs
 
@@ -42,8 +39,7 @@ pub jobs_first : (unit : UnitCore) (marks : List Bool) (form : ℕ) (a b c : Con
 jobs_first unit marks form a b c key j jobs t place last h n = record {
   grows = grows_more a b c h.grows n.grows;
   holds = λ cps origins inc base setting first bound held bounds helds can.
-      let x = translation unit cps origins in
-      (
+      let x = translation unit cps origins in (
         place,
         can.0,
         child x marks base a.next b.next form key j.node bound held (Continuation.Lam j.var place) t (n.holds cps origins inc base) n.below h.grows.next setting first can.2 bounds helds (can.0, can.1),
@@ -76,7 +72,7 @@ variable_no_proc unit g e = by (slice_get unit.shared.globals.items g) e
     by (Some info) e = ap (λ o. option_map_or is_proc_kind o false) e
 
 module _ (x : Translation) (marks : List Bool) (base now after most form key : ℕ) (bound held : List ℕ) (k : Cont) (jobs : List Job) (t last : ℕ) (setting : Setting x.unit marks base) (spot : Spot x base now form key bound held)
-  (grown : now ≤ after) (few : after ≤ most) (claim : JobsClaim x marks base most form key jobs t last) where
+    (grown : now ≤ after) (few : after ≤ most) (claim : JobsClaim x marks base most form key jobs t last) where
   bounds : AreOuter x.unit base now form key bound
   bounds = are_more x.unit base now now form (suc key) key (omega arith) (omega arith) bound spot.bound_outer
 
@@ -178,9 +174,12 @@ if_converted unit marks form a b c d e f g h key test first second k name first_
       (record {
         first_at = first_at;
         second_at = second_at;
-        over = (arg, over x marks base a.next d.next e.next f.next form key bound held (test ∷ []) (arg ∷ []) jobs (Step.If arg first_at second_at) rest last setting spot.base_first up_d (omega (arith, made.next)) outs holds
-          (o.parts.0, tt) (one_operand unit form d.next e.next test arg jobs (subst (λ l. IsOperand unit form d.next e.next test arg l) (sym operand.after) operand.is))
-          (done.holds cps origins at_g base) (made.stands x at_f));
+        over = (
+          arg,
+          over x marks base a.next d.next e.next f.next form key bound held (test ∷ []) (arg ∷ []) jobs (Step.If arg first_at second_at) rest last setting spot.base_first up_d (omega (arith, made.next)) outs holds
+              (o.parts.0, tt) (one_operand unit form d.next e.next test arg jobs (subst (λ l. IsOperand unit form d.next e.next test arg l) (sym operand.after) operand.is))
+              (done.holds cps origins at_g base) (made.stands x at_f),
+        );
         first_as = child x marks base a.next b.next form key first bound held name first_at (one.holds cps origins at_c base) one.below up setting spot.base_first o.parts.1.0 outs holds to;
         second_as = child x marks base a.next c.next form key second bound held name second_at (two.holds cps origins at_d base) two.below up_c setting spot.base_first o.parts.1.1.0 outs holds to;
       });

@@ -2,8 +2,8 @@
 #![tactic(auto)]
 
 mod conversion;
-mod operands;
 mod nodes;
+mod operands;
 mod ready;
 mod terms;
 mod variables;

@@ -9,7 +9,9 @@ use crate::conversion::Conversion;
 use crate::operands::{Job, let_operands, operand};
 use crate::ready::node_at;
 use crate::terms::{give_procedure, joined, last_term, named};
-use crate::variables::{arguments, bind_assigned, bind_one, name_for, names_for, set_assigned, unset};
+use crate::variables::{
+    arguments, bind_assigned, bind_one, name_for, names_for, set_assigned, unset,
+};
 use cps_ir::{Arg, Cont, Lam, Term};
 use std::alloc::Global;
 use t_base::{Keys, Memory, Var, Vars};
@@ -82,7 +84,16 @@ fn lambda(
 {
     match node_at(unit, form, key) {
         Some(Core::Lambda { params, body }) => {
-            let lam = procedure(alloc, unit, marks, form, made, key, params.as_slice(), *body)?;
+            let lam = procedure(
+                alloc,
+                unit,
+                marks,
+                form,
+                made,
+                key,
+                params.as_slice(),
+                *body,
+            )?;
             let place = made.add_procedure(lam, form, key)?;
             Ok(place)
         }

@@ -1,13 +1,13 @@
-use Rattle.std.proofs.Common.{◌≡◌, ◌∷◌, ◌++◌, [], Some, length, drop, sym, subst, ap, ◌∙◌, refl, arith, rules}
-use Rattle.std.proofs.lemmas.List.{append_assoc, append-nil, take_all}
+use Rattle.std.proofs.Common.{◌≡◌, ◌∷◌, ◌++◌, [], Some, length, drop, sym, subst, ap, ◌∙◌, arith}
+use Rattle.std.proofs.lemmas.List.{append_assoc, take_all}
 use Rattle.t_core.specs.declared.forms.Core.TheVariants as Node
 use Rattle.cps_ir.specs.declared.terms.Term.TheVariants as Step
 use Rattle.cps_convert.specs.Growing.{AddsTerm}
-use Rattle.cps_convert.specs.Claims.{Converted, LamConverted}
-use Rattle.cps_convert.specs.Operands.{JobsConverted, IsOperandAdded, AreLetsAdded}
+use Rattle.cps_convert.specs.Claims.{LamConverted}
+use Rattle.cps_convert.specs.Operands.{IsOperandAdded, AreLetsAdded}
 use Rattle.cps_convert.specs.Naming.{BindsAll, SetsAll}
 use Rattle.cps_conversion.specs.Conversion.{variables}
-use Rattle.cps_convert.specs.Kinds.{KindConverted, LastMade, MethodMade, MethodsMade}
+use Rattle.cps_convert.specs.Kinds.{LastMade, MethodMade, MethodsMade}
 use Rattle.cps_convert.proofs.Blocks.{BlockEnd, catch_converted, block_start, block_step, block_converted}
 use Rattle.cps_convert.proofs.Bodies.{lam_converted, lambda_made, lambda_converted}
 use Rattle.cps_convert.proofs.Groups.{lambdas_step, method_made, methods_step, object_converted}
@@ -44,13 +44,12 @@ catch-returns t c = λ marks.
 
 pub evaluate-jobs-preserved : goal.evaluate-jobs-preserved
 evaluate-jobs-preserved t c =
-    let job = c.in-Some.job in
-    (
+    let job = c.in-Some.job in (
       job ∷ c.jobs.invariant.0,
       c.jobs.invariant.1 ∙ ap (λ l. l ++ c.jobs.invariant.0) c.in-Some.ensures.items ∙ append_assoc c.pop.new.self.items (job ∷ []) c.jobs.invariant.0,
       λ marks.
-        jobs_first c.args.unit.now c.args.marks.now c.args.form c.args.made.now c.jobs.made c.node.new.made c.args.key job c.jobs.invariant.0 c.in_ok-place.place c.jobs.place c.args.last (c.jobs.invariant.2 marks)
-        (c.in_ok-place.ensures marks),
+          jobs_first c.args.unit.now c.args.marks.now c.args.form c.args.made.now c.jobs.made c.node.new.made c.args.key job c.jobs.invariant.0 c.in_ok-place.place c.jobs.place c.args.last (c.jobs.invariant.2 marks)
+          (c.in_ok-place.ensures marks),
     )
 
 pub if_node-returns : goal.if_node-returns
@@ -103,13 +102,11 @@ node-returns-in_ok-place-in-Lambda t c = λ marks.
     (sym c.in-Some.ensures ∙ ap Some c.in-Lambda.is)
     (lambda_converted c.args.unit.now c.args.marks.now c.args.form c.args.made.now c.lambda.new.made c.give_procedure.new.made c.args.key c.in-Lambda.params c.in-Lambda.body c.args.k c.in_ok-l-in-Lambda.l c.in_ok-place-in-Lambda.place (c.in_ok-l-in-Lambda.ensures marks) c.in_ok-place-in-Lambda.ensures)
 
-
 pub node-returns-in_ok-place-in-If : goal.node-returns-in_ok-place-in-If
 node-returns-in_ok-place-in-If t c = λ marks.
     kind_node c.args.unit.now c.args.marks.now c.args.form c.args.made.now c.if_node.new.made c.args.above c.args.key _ c.args.k c.in_ok-place-in-If.place (omega (arith, c.if-key-above.false))
     (sym c.in-Some.ensures ∙ ap Some c.in-If.is)
     (c.in_ok-place-in-If.ensures marks)
-
 
 pub node-returns-in_ok-place-in-Block : goal.node-returns-in_ok-place-in-Block
 node-returns-in_ok-place-in-Block t c = λ marks.
@@ -117,13 +114,11 @@ node-returns-in_ok-place-in-Block t c = λ marks.
     (sym c.in-Some.ensures ∙ ap Some c.in-Block.is ∙ ap (λ l. Some (Node.Block l)) (sym c.as_slice.ensures))
     (c.in_ok-place-in-Block.ensures marks)
 
-
 pub node-returns-in_ok-place-in-Let : goal.node-returns-in_ok-place-in-Let
 node-returns-in_ok-place-in-Let t c = λ marks.
     kind_node c.args.unit.now c.args.marks.now c.args.form c.args.made.now c.let_node.new.made c.args.above c.args.key _ c.args.k c.in_ok-place-in-Let.place (omega (arith, c.if-key-above.false))
     (sym c.in-Some.ensures ∙ ap Some c.in-Let.is ∙ ap (λ l. Some (Node.Let l c.in-Let.values c.in-Let.body)) (sym c.as_slice-vars.ensures) ∙ ap (λ l. Some (Node.Let c.as_slice-vars.result.now l c.in-Let.body)) (sym c.as_slice-values.ensures))
     (c.in_ok-place-in-Let.ensures marks)
-
 
 pub node-returns-in_ok-place-in-Labels : goal.node-returns-in_ok-place-in-Labels
 node-returns-in_ok-place-in-Labels t c = λ marks.
@@ -131,20 +126,17 @@ node-returns-in_ok-place-in-Labels t c = λ marks.
     (sym c.in-Some.ensures ∙ ap Some c.in-Labels.is ∙ ap (λ l. Some (Node.Labels l c.in-Labels.keys c.in-Labels.body)) (sym c.as_slice-vars-in-Labels.ensures) ∙ ap (λ l. Some (Node.Labels c.as_slice-vars-in-Labels.result.now l c.in-Labels.body)) (sym c.as_slice-keys.ensures))
     (c.in_ok-place-in-Labels.ensures marks)
 
-
 pub node-returns-in_ok-place-in-Catch : goal.node-returns-in_ok-place-in-Catch
 node-returns-in_ok-place-in-Catch t c = λ marks.
     kind_node c.args.unit.now c.args.marks.now c.args.form c.args.made.now c.catch.new.made c.args.above c.args.key _ c.args.k c.in_ok-place-in-Catch.place (omega (arith, c.if-key-above.false))
     (sym c.in-Some.ensures ∙ ap Some c.in-Catch.is)
     (c.in_ok-place-in-Catch.ensures marks)
 
-
 pub node-returns-in_ok-place-in-Object : goal.node-returns-in_ok-place-in-Object
 node-returns-in_ok-place-in-Object t c = λ marks.
     kind_node c.args.unit.now c.args.marks.now c.args.form c.args.made.now c.object.new.made c.args.above c.args.key _ c.args.k c.in_ok-place-in-Object.place (omega (arith, c.if-key-above.false))
     (sym c.in-Some.ensures ∙ ap Some c.in-Object.is ∙ ap (λ l. Some (Node.Object c.in-Object.proc l)) (sym c.as_slice-methods.ensures))
     (c.in_ok-place-in-Object.ensures marks)
-
 
 pub node-returns-in_ok-place-in_default-core : goal.node-returns-in_ok-place-in_default-core
 node-returns-in_ok-place-in_default-core t c = λ marks.
@@ -153,7 +145,6 @@ node-returns-in_ok-place-in_default-core t c = λ marks.
     (last_converted c.args.unit.now c.args.marks.now c.args.form c.args.made.now c.last_term.new.made c.evaluate.new.made c.args.key c.in-Some.core.now c.args.k c.last_term.new.jobs.items c.in_ok-place-in_default-core.place c.in_ok-last-in_default-core.last
     (subst (λ l. LastMade c.args.unit.now c.args.form c.args.made.now c.last_term.new.made c.in-Some.core.now c.args.k l c.last_term.new.jobs.items c.in_ok-last-in_default-core.last) c.new-jobs.ensures.items (c.in_ok-last-in_default-core.ensures marks))
     (c.in_ok-place-in_default-core.ensures marks))
-
 
 pub object-methods-preserved : goal.object-methods-preserved
 object-methods-preserved t c = λ marks.

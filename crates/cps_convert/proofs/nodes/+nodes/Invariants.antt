@@ -1,4 +1,4 @@
-use Rattle.std.proofs.Common.{◌≡◌, ◌+◌, ◌-◌, ◌*◌, ◌<◌, ◌≤◌, ◌++◌, List, length, take, drop}
+use Rattle.std.proofs.Common.{◌≡◌, ◌+◌, ◌*◌, ◌<◌, ◌++◌, List, length, take, drop}
 use Rattle.cps_convert.specs.declared.operands.Job.{Job}
 use Rattle.cps_convert.specs.Claims.{HasMarks}
 use Rattle.cps_convert.specs.Operands.{JobsConverted}
