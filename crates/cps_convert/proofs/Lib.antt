@@ -1,0 +1,9 @@
+mod Listing
+mod Spots
+mod Steps
+mod Own
+mod Bodies
+mod Blocks
+mod Groups
+mod Lets
+mod Labels

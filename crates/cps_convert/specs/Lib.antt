@@ -1,0 +1,5 @@
+pub mod Growing
+pub mod Claims
+pub mod Operands
+pub mod Naming
+pub mod Kinds

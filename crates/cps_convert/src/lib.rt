@@ -1,0 +1,11 @@
+//! Conversion: a program in continuation-passing style that stands for a unit.
+#![tactic(auto)]
+
+mod conversion;
+mod nodes;
+mod operands;
+mod ready;
+mod terms;
+mod variables;
+
+pub use crate::conversion::Conversion;
