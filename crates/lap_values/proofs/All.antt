@@ -19,7 +19,7 @@ use Rattle.lap_values.specs.Laws.{NamedServiceArrives, AllServicesArrive}
 use Rattle.lap_values.proofs.Lines.{values_arrive, strings_arrive}
 
 -- no more instructions than so many are no more than a greater number
-more_told : (a : Assembly) (n k : ℕ) (t : State) (bytes : List ℕ) (end : Option Exit) (Q : State → Type 0) → n ≤ k → Tells a n t bytes end Q → Tells a k t bytes end Q
+pub more_told : (a : Assembly) (n k : ℕ) (t : State) (bytes : List ℕ) (end : Option Exit) (Q : State → Type 0) → n ≤ k → Tells a n t bytes end Q → Tells a k t bytes end Q
 more_told a n k t bytes end Q le r = record {
   count = r.count;
   few = omega (arith, r.few, le);
@@ -34,7 +34,7 @@ module _ (a : Assembly) (m : Setting) (s : WordState) (t : State) (items : List 
   more_ends : (e : End) → EndsSo a s t n e → EndsSo a s t k e
   more_ends e x = (x.0, x.1, more_told a n k t [] (Some x.0) _ le x.2)
 
-  more_serves : (e : Effect) → Serves a m s t items n e → Serves a m s t items k e
+  pub more_serves : (e : Effect) → Serves a m s t items n e → Serves a m s t items k e
   more_serves (Puts bytes) x = more_told a n k t bytes None _ le x
   more_serves (Ends (Value shown)) x = more_ends (Value shown) x
   more_serves (Ends (Faulted fault)) x = more_ends (Faulted fault) x
