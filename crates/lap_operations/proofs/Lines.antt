@@ -1,21 +1,23 @@
--- Each operation.
+-- Each operation, and tests.
 use Rattle.std.proofs.Common.{ℕ, ◌*◌, ◌≤◌, List, arith}
 use Rattle.word_ir.specs.declared.words.Arith.TheVariants as kind
 use Rattle.word_ir.specs.declared.words.WordOp.{WordOp}
 use Rattle.word_ir.specs.declared.words.WordOp.TheVariants as op
-use Rattle.word_ir.specs.Lines.{Op, moves_of}
+use Rattle.word_ir.specs.declared.words.WordEnd.TheVariants as last
+use Rattle.word_ir.specs.Lines.{Op, Last, moves_of}
 use Rattle.word_ir.specs.State.{Setting, State as WordState}
-use Rattle.word_ir.specs.Effects.{op_effect}
+use Rattle.word_ir.specs.Effects.{op_effect, end_effect}
 use Rattle.m68020_step.specs.Step.{State}
 use Rattle.m68020_asm.specs.declared.item.Item.{Item}
 use Rattle.lap_paths.specs.Paths.{Assembly}
 use Rattle.lap_lines.specs.Arrives.{Arrives}
 use Rattle.lap_lines.proofs.Lines.{moves_arrive, loads_arrive, bytes_arrive, stores_arrive, takes_arrive, pushes_arrive, pops_arrive, resets_arrive, sums_arrive, shifts_arrive}
 use Rattle.lap_values.proofs.All.{all_services_arrive}
+use Rattle.lap_ends.proofs.Tests.{test_line}
 use Rattle.lap_operations.specs.Comes.{Comes}
-use Rattle.lap_operations.specs.Laws.{OperationsArrive}
+use Rattle.lap_operations.specs.Laws.{OperationsArrive, TestsCome}
 use Rattle.lap_operations.proofs.Coming.{arriving, serving}
-use Rattle.lap_operations.proofs.Quiet.{IsQuiet, move_quiet, load_quiet, byte_quiet, store_quiet, arith_quiet, take_quiet, push_quiet, pop_quiet, reset_quiet, service_spoken}
+use Rattle.lap_operations.proofs.Quiet.{IsQuiet, move_quiet, load_quiet, byte_quiet, store_quiet, arith_quiet, take_quiet, push_quiet, pop_quiet, reset_quiet, test_quiet, service_spoken}
 
 -- in so many instructions
 of_line : (a : Assembly) (m : Setting) (s : WordState) (t : State) (items : List Item) (o : WordOp) (n : ℕ) → n ≤ 13 * moves_of (Op o) → 1 ≤ n → IsQuiet (op_effect m s o) → Arrives a m s t items n (op_effect m s o)
@@ -58,3 +60,8 @@ operations_arrive a m s t items (op.Arith to kind.Or x y over) named housed plac
     of_line a m s t items (op.Arith to kind.Or x y over) 8 (omega arith) (omega arith) (arith_quiet m s to kind.Or x y over) (sums_arrive.either to x y over a m s t items housed place is fine stands)
 operations_arrive a m s t items (op.Arith to (kind.Shift count) x y over) named housed place is fine shaped stands =
     of_line a m s t items (op.Arith to (kind.Shift count) x y over) 14 (omega arith) (omega arith) (arith_quiet m s to (kind.Shift count) x y over) (shifts_arrive count to x y over a m s t items housed place is fine stands)
+
+pub tests_come : TestsCome
+tests_come a m s t items k x y at_true at_false codes housed place is usable_x usable_y sized stands =
+    arriving a m s t items 8 (13 * moves_of (Last (last.Test k x y at_true at_false))) (omega arith) (end_effect m s (last.Test k x y at_true at_false)) (omega arith) (test_quiet m s k x y at_true at_false)
+    (test_line a m s housed place codes t items x y at_true at_false is usable_x usable_y k sized stands)

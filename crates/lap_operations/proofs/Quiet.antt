@@ -1,18 +1,20 @@
--- Operations but services put nothing, end no run and enter no block; and services do nothing else than to put and to end.
+-- Operations but services, and tests, put nothing, end no run and enter no block; and services do nothing else than to put and to end.
 use Rattle.std.proofs.Common.{ℕ, ◌+◌, ◌*◌, ◌%◌, ◌==◌, nat_lt, Bool, true, false, List, [], ◌∷◌, Option, Some, None, ℤ}
 use Rattle.std.specs.Prelude.{if◌then◌else◌, is_some, ◌&&◌, nat_le}
 use Rattle.t_base.specs.declared.basics.Var.{Var}
 use Rattle.program_runs.specs.Runs.{Value, Faulted, Full, Broken}
 use Rattle.word_ir.specs.declared.operands.Operand.{Operand}
 use Rattle.word_ir.specs.declared.words.Arith.{Arith}
+use Rattle.word_ir.specs.declared.words.Test.{Test}
+use Rattle.word_ir.specs.declared.words.WordEnd.TheVariants as last
 use Rattle.word_ir.specs.declared.words.WordOp.TheVariants as op
 use Rattle.word_faces.specs.Faces.{face_of, character_of, fixnum_of}
 use Rattle.word_faces.specs.Operands.{fault_of, string_of}
 use Rattle.word_ir.specs.Word.{Word, Number, moved, number_of}
 use Rattle.word_ir.specs.Storage.{STACK_START, byte_at}
-use Rattle.word_ir.specs.Computing.{Result, Gives, Over, Bad, computed, is_shift}
+use Rattle.word_ir.specs.Computing.{Result, Gives, Over, Bad, computed, is_shift, compared, is_of_tag}
 use Rattle.word_ir.specs.State.{Setting, State as WordState, keeper_of, has_room, word_at, stack_end}
-use Rattle.word_ir.specs.Effects.{Effect, Binds, Stores, Takes, SetsTop, Puts, Turns, Enters, Ends, breaks, or_broken, word_of, with_number, kept_at, binds, bind_result, heap_room, stack_room, store_effect, op_effect, with_numbers, with_one, with_two, raised, lacking, service_effect, reader, names_of}
+use Rattle.word_ir.specs.Effects.{Effect, Binds, Stores, Takes, SetsTop, Puts, Turns, Enters, Ends, breaks, or_broken, word_of, with_word, with_number, kept_at, binds, bind_result, heap_room, stack_room, store_effect, op_effect, turned, end_effect, with_numbers, with_one, with_two, raised, lacking, service_effect, reader, names_of}
 
 abbrev pub IsQuiet : Effect → Type 0
 IsQuiet (Binds to x) = Unit {0}
@@ -79,6 +81,17 @@ module _ (m : Setting) (s : WordState) where
 
   pub reset_quiet : (to : Operand) → IsQuiet (op_effect m s (op.Reset to))
   reset_quiet to = number_quiet to _ (λ at. if_quiet ((at % 4 == 0) && nat_le STACK_START at && nat_le at (stack_end m)) _ _ tt tt)
+
+module _ (m : Setting) (s : WordState) where
+  turned_quiet : (at_true at_false : ℕ) (answer : Bool) → IsQuiet (turned at_true at_false answer)
+  turned_quiet at_true at_false true = tt
+  turned_quiet at_true at_false false = tt
+
+  pub test_quiet : (k : Test) (x y : Operand) (at_true at_false : ℕ) → IsQuiet (end_effect m s (last.Test k x y at_true at_false))
+  test_quiet k x y at_true at_false =
+      or_quiet (word_of m s x) _ (λ v. if_quiet (is_of_tag k) (or_broken (compared k v v) (turned at_true at_false)) (with_word m s y (λ w. or_broken (compared k v w) (turned at_true at_false)))
+      (or_quiet (compared k v v) (turned at_true at_false) (turned_quiet at_true at_false))
+      (or_quiet (word_of m s y) _ (λ w. or_quiet (compared k v w) (turned at_true at_false) (turned_quiet at_true at_false))))
 
 -- ---- services
 

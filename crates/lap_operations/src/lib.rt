@@ -1,4 +1,4 @@
-//! Every operation of words with homes, and its items: they come to what the operation does.
+//! Every operation and test of words with homes, and its items: they come to what it does.
 #![tactic(auto)]
 
 pub mod laws;
