@@ -48,21 +48,22 @@ number_is (Number k) x e = let same : k ≡ x = cc in ap Number same
 number_is (Code b) x e = absurd (cc)
 
 module _ (a : Assembly) (m : Setting) (s : WordState) (t : State) (items : List Item) (n : ℕ) where
-  or_serves : {X : Type 0} (o : Option X) (go : X → Effect) → ((x : X) → o ≡ Some x → Serves a m s t items n (go x)) → Serves a m s t items n (or_broken o go)
+  pub or_serves : {X : Type 0} (o : Option X) (go : X → Effect) → ((x : X) → o ≡ Some x → Serves a m s t items n (go x)) → Serves a m s t items n (or_broken o go)
   or_serves (Some x) go h = h x refl
   or_serves None go h = tt
 
-  number_serves : (x : Operand) (go : ℕ → Effect) → ((k : ℕ) → word_of m s x ≡ Some (Number k) → Serves a m s t items n (go k)) → Serves a m s t items n (with_number m s x go)
+  pub number_serves : (x : Operand) (go : ℕ → Effect) → ((k : ℕ) → word_of m s x ≡ Some (Number k) → Serves a m s t items n (go k)) → Serves a m s t items n (with_number m s x go)
   number_serves x go h = or_serves (word_of m s x) (λ w. or_broken (number_of w) go) (λ w e. or_serves (number_of w) go (λ k f. h k (e ∙ ap Some (number_is w k f))))
 
-  if_serves : (b : Bool) (x y : Effect) → (b ≡ true → Serves a m s t items n x) → (b ≡ false → Serves a m s t items n y) → Serves a m s t items n (if b then x else y)
+  pub if_serves : (b : Bool) (x y : Effect) → (b ≡ true → Serves a m s t items n x) → (b ≡ false → Serves a m s t items n y) → Serves a m s t items n (if b then x else y)
   if_serves true x y h k = h refl
   if_serves false x y h k = k refl
 
 module _ (a : Assembly) (m : Setting) (s : WordState) (housed : IsHoused m) (place : IsInPlace m s) where
   -- ---- bytes are put: the operand is in D0, whose word is in D7 meanwhile
 
-  put_run : (t : State) (x : Operand) (w vector : ℕ) (bytes : List ℕ) (items : List Item) → Represents m a.labels s t → IsUsable m x → word_of m s x ≡ Some (Number w) → ((u : State) → data_at u.registers 0 ≡ w → serve a.names u vector ≡ ServedPuts bytes)
+  pub put_run : (t : State) (x : Operand) (w vector : ℕ) (bytes : List ℕ) (items : List Item) → Represents m a.labels s t → IsUsable m x → word_of m s x ≡ Some (Number w)
+      → ((u : State) → u.storage ≡ t.storage → data_at u.registers 0 ≡ w → serve a.names u vector ≡ ServedPuts bytes)
       → Stands a t (with_one_items m.homes vector (x ∷ []) ++ items) → Tells a 6 t bytes None (Behind a m (changed s (Puts bytes)) items)
   unfolding with_one_items
   put_run t x w vector bytes items is usable word served stands =
@@ -77,7 +78,7 @@ module _ (a : Assembly) (m : Setting) (s : WordState) (housed : IsHoused m) (pla
       (λ t2 second reads stands2.
       move_goes a m housed 0 t2 (source_of m.homes x) 0 w (Plain (Trap vector) ∷ Plain (MoveL (D 7) (D 0)) ∷ items) P (omega arith) stands2 reads
       (λ t3 third there stands3. arrived a t3 P
-      (trap_puts a 1 t3 vector (Plain (MoveL (D 7) (D 0)) ∷ items) bytes Q stands3 (λ pc. served (at_pc t3 pc) there)
+      (trap_puts a 1 t3 vector (Plain (MoveL (D 7) (D 0)) ∷ items) bytes Q stands3 (λ pc. served (at_pc t3 pc) (third.storage ∙ second.storage ∙ first.storage) there)
       (λ pc stands4.
       let seven : data_at t3.registers 7 ≡ data_at t.registers 0 = third.numbers 7 (omega arith) (λ e. absurd (omega (arith, e))) ∙ second.numbers 7 (omega arith) (λ e. absurd (omega (arith, e))) ∙ kept in
       move_goes a m housed 0 (at_pc t3 pc) (D 7) 0 (data_at t.registers 0) items Q (omega arith) stands4 (reads_data (at_pc t3 pc) 7 (data_at t.registers 0) seven)
@@ -98,7 +99,7 @@ module _ (a : Assembly) (m : Setting) (s : WordState) (housed : IsHoused m) (pla
 
   -- ---- the run ends
 
-  ended : (t : State) (vector : ℕ) (items : List Item) (how : Exit) → next_of t ≡ s.next → Stands a t (Plain (Trap vector) ∷ items) → ((pc : ℕ) → serve a.names (at_pc t pc) vector ≡ Exits how) → Tells a 1 t [] (Some how) (λ u. next_of u ≡ s.next)
+  pub ended : (t : State) (vector : ℕ) (items : List Item) (how : Exit) → next_of t ≡ s.next → Stands a t (Plain (Trap vector) ∷ items) → ((pc : ℕ) → serve a.names (at_pc t pc) vector ≡ Exits how) → Tells a 1 t [] (Some how) (λ u. next_of u ≡ s.next)
   ended t vector items how same stands ends = trap_ends a t vector items how (λ u. next_of u ≡ s.next) stands ends (λ pc. same)
 
   -- a fault by its number alone
@@ -212,14 +213,14 @@ unfolding op_items service_items
 characters_arrive x a m s t items housed place is usable stands =
     number_serves a m s t items 6 x (λ w. or_broken (character_of w) (λ code. Puts (code ∷ []))) (λ w word.
     or_serves a m s t items 6 (character_of w) (λ code. Puts (code ∷ [])) (λ code found.
-    put_run a m s housed place t x w 1 (code ∷ []) items is usable.0 word (λ u there. ap (λ (n : ℕ). or_bad (λ c. ServedPuts (c ∷ [])) (character_of n)) there ∙ ap (or_bad (λ c. ServedPuts (c ∷ []))) found) stands))
+    put_run a m s housed place t x w 1 (code ∷ []) items is usable.0 word (λ u same there. ap (λ (n : ℕ). or_bad (λ c. ServedPuts (c ∷ [])) (character_of n)) there ∙ ap (or_bad (λ c. ServedPuts (c ∷ []))) found) stands))
 
 pub fixnums_arrive : FixnumsArrive
 unfolding op_items service_items
 fixnums_arrive x a m s t items housed place is usable stands =
     number_serves a m s t items 6 x (λ w. or_broken (fixnum_of w) (λ n. Puts (signed_decimal n))) (λ w word.
     or_serves a m s t items 6 (fixnum_of w) (λ n. Puts (signed_decimal n)) (λ number found.
-    put_run a m s housed place t x w 2 (signed_decimal number) items is usable.0 word (λ u there. ap (λ (n : ℕ). or_bad (λ c. ServedPuts (signed_decimal c)) (fixnum_of n)) there ∙ ap (or_bad (λ c. ServedPuts (signed_decimal c))) found) stands))
+    put_run a m s housed place t x w 2 (signed_decimal number) items is usable.0 word (λ u same there. ap (λ (n : ℕ). or_bad (λ c. ServedPuts (signed_decimal c)) (fixnum_of n)) there ∙ ap (or_bad (λ c. ServedPuts (signed_decimal c))) found) stands))
 
 pub faults_arrive : FaultsArrive
 faults_arrive = record {

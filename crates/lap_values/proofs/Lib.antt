@@ -1,0 +1,4 @@
+pub mod Regions
+pub mod Reading
+pub mod Lines
+pub mod All
