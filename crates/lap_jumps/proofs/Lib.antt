@@ -1,0 +1,4 @@
+pub mod Singles
+pub mod Places
+pub mod Holding
+pub mod Carrying
