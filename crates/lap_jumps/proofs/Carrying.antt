@@ -64,16 +64,16 @@ module _ (a : Assembly) (m : Setting) (s : WordState) (t : State) (from : Ea) (w
 -- ---- one move
 
 module _ (a : Assembly) (m : Setting) (homes : List Home) (housed : IsHoused m) (lodged : (h : Home) → IsOne homes h → IsOne m.homes h) where
-  is_home : (h : Home) → IsOne homes h → IsHome m.words h
+  pub is_home : (h : Home) → IsOne homes h → IsHome m.words h
   is_home h one = let k = lodged h one in housed.homes k.0 h k.1
 
-  near_one : (h : Home) → IsOne homes h → IsNear (length m.words.statics.items) h
+  pub near_one : (h : Home) → IsOne homes h → IsNear (length m.words.statics.items) h
   near_one h one = near m.words h (is_home h one)
 
-  back : (h : Home) (p : ℕ) → IsOne homes h → number_of_home h ≡ p → home_at p ≡ h
+  pub back : (h : Home) (p : ℕ) → IsOne homes h → number_of_home h ≡ p → home_at p ≡ h
   back h p one same = ap home_at (sym same) ∙ home_back (length m.words.statics.items) h (omega (arith, housed.few)) (near_one h one)
 
-  small : (h : Home) → IsOne homes h → number_of_home h < scratch
+  pub small : (h : Home) → IsOne homes h → number_of_home h < scratch
   small h one = number_small (length m.words.statics.items) h (omega (arith, housed.few)) (near_one h one)
 
   module _ (s : WordState) (t : State) (holds : ℕ → ℕ) (c : Carries a m homes s t holds) where

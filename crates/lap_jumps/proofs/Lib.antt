@@ -2,3 +2,5 @@ pub mod Singles
 pub mod Places
 pub mod Holding
 pub mod Carrying
+pub mod Completing
+pub mod Arguments
