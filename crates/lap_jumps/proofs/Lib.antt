@@ -4,3 +4,4 @@ pub mod Holding
 pub mod Carrying
 pub mod Completing
 pub mod Arguments
+pub mod Binding
