@@ -5,3 +5,4 @@ pub mod Carrying
 pub mod Completing
 pub mod Arguments
 pub mod Binding
+pub mod Jumping
