@@ -1,5 +1,5 @@
 -- Arguments go to places at once.
-use Rattle.std.proofs.Common.{◌≡◌, ◌≢◌, ℕ, zero, suc, ◌+◌, ◌*◌, ◌<◌, ◌^◌, ◌≤◌, ◌==◌, Bool, true, false, ◌||◌, IsTrue, List, [], ◌∷◌, ◌++◌, Option, Some, None, slice_get, length, refl, ap, sym, subst, ◌∙◌, arith, append_assoc}
+use Rattle.std.proofs.Common.{◌≡◌, ◌≢◌, ℕ, zero, suc, ◌+◌, ◌*◌, ◌<◌, ◌^◌, ◌==◌, Bool, true, false, ◌||◌, IsTrue, List, [], ◌∷◌, ◌++◌, Option, Some, None, slice_get, length, refl, ap, sym, subst, ◌∙◌, arith, append_assoc}
 use Rattle.std.specs.Prelude.{if◌then◌else◌}
 use Rattle.std.specs.List.{list_any}
 use Rattle.std.specs.Option.{option_map_or}
@@ -12,13 +12,11 @@ use Rattle.word_ir.specs.declared.placed.Home.TheVariants as home
 use Rattle.word_ir.specs.Word.{Word, Number, Code, wrap}
 use Rattle.word_ir.specs.Storage.{static_at}
 use Rattle.t_base.specs.declared.basics.Var.{Var}
-use Rattle.word_ir.specs.State.{Setting, State as WordState, Own, At, held, hold, has_room}
+use Rattle.word_ir.specs.State.{Setting, State as WordState, Own, At, held, hold}
 use Rattle.word_ir.specs.Effects.{word_of}
-use Rattle.word_ir.specs.WholePlaced.{IsHome}
 use Rattle.word_ir.specs.Ranges.{IsInPlace}
-use Rattle.parallel_moves.specs.declared.Move.{Move}
 use Rattle.parallel_moves.specs.declared.OneMove.{OneMove}
-use Rattle.parallel_moves.specs.Moves.{scratch, after, gets, at_once, MovesPass}
+use Rattle.parallel_moves.specs.Moves.{scratch, after, gets, MovesPass}
 use Rattle.m68020_step.specs.Operand.{data_at}
 use Rattle.m68020_step.specs.Step.{State}
 use Rattle.m68020_asm.specs.declared.item.Item.{Item}
@@ -29,7 +27,6 @@ use Rattle.lap_items.proofs.Numbers.{same_number}
 use Rattle.lap_runs.specs.Represents.{real, IsKnown, Represents}
 use Rattle.lap_paths.specs.Paths.{Assembly, Stands, Path}
 use Rattle.lap_paths.specs.Housed.{IsHoused, IsUsable}
-use Rattle.lap_paths.proofs.Steps.{widen}
 use Rattle.lap_paths.proofs.Besides.{beside_represents}
 use Rattle.lap_paths.proofs.Loads.{source_goes}
 use Rattle.lap_paths.proofs.Puts.{put_goes}
@@ -212,7 +209,7 @@ module _ (a : Assembly) (m : Setting) (homes : List Home) (housed : IsHoused m) 
           subst (λ h. held y (At h) ≡ Some z) at (f.other p (ones 0 p refl) (out_of p places distinct) ∙ held_same x p w old has ∙ both)
       word (suc k) q to z plain e g there = f.word k q to z plain e g (same_word x (hold x (At p) w) q plain (hold_keeps homes x p w old (ones 0 p refl) has).top ∙ there)
 
-  pub fill_steps : List Operand → List Home → ℕ → ℕ
+  unfoldable pub fill_steps : List Operand → List Home → ℕ → ℕ
   fill_steps [] places n = n
   fill_steps (x ∷ args) [] n = n
   fill_steps (operand.Var v ∷ args) (to ∷ places) n = fill_steps args places n

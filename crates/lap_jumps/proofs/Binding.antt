@@ -1,5 +1,5 @@
 -- A block's parameters have their words where their homes do.
-use Rattle.std.proofs.Common.{◌≡◌, ◌≢◌, ℕ, zero, suc, ◌+◌, ◌*◌, ◌≤◌, ◌==◌, Bool, true, false, inl, inr, ◌⊎◌, List, [], ◌∷◌, Option, Some, None, slice_get, map, refl, ap, sym, subst, ◌∙◌, arith}
+use Rattle.std.proofs.Common.{◌≡◌, ◌≢◌, ℕ, zero, suc, ◌+◌, ◌*◌, Bool, true, false, inl, inr, ◌⊎◌, List, [], ◌∷◌, Option, Some, None, slice_get, map, refl, ap, sym, subst, ◌∙◌}
 use Rattle.std.specs.Prelude.{if◌then◌else◌, option_map}
 use Rattle.std.specs.Option.{option_map_or}
 use Rattle.std.proofs.lemmas.Bool.{eq-eqb}
@@ -20,7 +20,6 @@ use Rattle.lap_runs.specs.Represents.{HasWord, Represents}
 use Rattle.lap_paths.specs.Housed.{HasHome}
 use Rattle.lap_paths.proofs.WordStorage.{stored_same, stored_other, visible, seen}
 use Rattle.lap_lines.proofs.Arriving.{turning}
-use Rattle.lap_jumps.specs.Carries.{IsOne}
 use Rattle.lap_jumps.proofs.Completing.{other_kept}
 
 some_same : {X : Type 0} (x y : X) → Some x ≡ Some y → x ≡ y

@@ -5,7 +5,7 @@ use Rattle.std.proofs.lemmas.Bool.{ne_eqb, eq-eqb, eqb-true, lt-ltb}
 use Rattle.word_ir.specs.declared.placed.Home.{Home}
 use Rattle.word_ir.specs.declared.placed.Home.TheVariants as home
 use Rattle.word_ir.specs.Word.{Word, Number}
-use Rattle.word_ir.specs.State.{Setting, State as WordState, Env, Keeper, At, held, with_kept, has_room, stack_at, same_home}
+use Rattle.word_ir.specs.State.{Setting, State as WordState, Env, At, held, with_kept, has_room, stack_at, same_home}
 use Rattle.word_ir.specs.Storage.{static_at}
 use Rattle.word_ir.specs.WholePlaced.{IsHome}
 use Rattle.word_ir.specs.Ranges.{IsInPlace}
@@ -14,7 +14,7 @@ use Rattle.m68020_step.specs.Ranges.{IsInRange}
 use Rattle.m68020_step.specs.Step.{State}
 use Rattle.m68020_step.proofs.InRange.{FetchFits, long_operand_fits, pc_fits}
 use Rattle.lap_items.specs.Homes.{at_home}
-use Rattle.lap_runs.specs.Represents.{real, HomeHas, HasWord, Represents}
+use Rattle.lap_runs.specs.Represents.{HomeHas, HasWord, Represents}
 use Rattle.lap_paths.specs.Paths.{Reads}
 use Rattle.lap_paths.specs.Housed.{IsHoused}
 use Rattle.lap_paths.proofs.Besides.{home_reads, is_reached}

@@ -10,10 +10,9 @@ use Rattle.word_ir.specs.declared.operands.Operand.TheVariants as operand
 use Rattle.word_ir.specs.declared.placed.Home.{Home}
 use Rattle.word_ir.specs.declared.placed.Home.TheVariants as home
 use Rattle.word_ir.specs.declared.words.WordBlock.{WordBlock}
-use Rattle.word_ir.specs.declared.words.WordEnd.TheVariants as last
 use Rattle.word_ir.specs.Word.{Word}
 use Rattle.word_ir.specs.Storage.{long_at}
-use Rattle.word_ir.specs.State.{Setting, State as WordState, Env, Keeper, Own, At, held, hold_all, has_room, stack_at}
+use Rattle.word_ir.specs.State.{Setting, State as WordState, Env, Own, At, held, hold_all, has_room, stack_at}
 use Rattle.word_ir.specs.Effects.{Enters, breaks, or_broken, word_of, pairs_of, enters, jump_effect}
 use Rattle.word_ir.specs.Step.{into, placed_in}
 use Rattle.word_ir.specs.Ranges.{IsInPlace}
@@ -32,12 +31,12 @@ use Rattle.lap_paths.proofs.Steps.{arrived, branch, widen}
 use Rattle.lap_paths.proofs.Besides.{beside_represents, beside_pc}
 use Rattle.lap_paths.proofs.WordStorage.{stack_word, visible}
 use Rattle.lap_jumps.specs.Carries.{IsOne}
-use Rattle.lap_jumps.specs.Arguments.{AreDistinct, ComesFrom, Given}
+use Rattle.lap_jumps.specs.Arguments.{ComesFrom, Given}
 use Rattle.lap_jumps.specs.Jumps.{CanJump, Entered, JumpsArrive}
 use Rattle.lap_jumps.proofs.Carrying.{steps_after, steps_many}
 use Rattle.lap_jumps.proofs.Completing.{with_env, completed}
 use Rattle.lap_jumps.proofs.Arguments.{fill_steps, arguments_go}
-use Rattle.lap_jumps.proofs.Binding.{Tells, tells, bound_represents}
+use Rattle.lap_jumps.proofs.Binding.{tells, bound_represents}
 
 -- ---- homes with room
 
@@ -121,7 +120,7 @@ module _ (a : Assembly) (m : Setting) (s : WordState) (t : State) (items : List 
 
   jump_goes : (env : Env Word) → pairs_of m s target.params (map (word_of m s) args) ≡ Some env
       → Path a (steps_after a m (roomy s m.homes) housed (λ h one. (of_roomy s m.homes h one).0) done (fill_steps a m (roomy s m.homes) housed (λ h one. (of_roomy s m.homes h one).0) args (homes_of_params m.homes target) 1)) t
-          (λ u. Represents m a.labels (into block (hold_all (record s { env = [] }) env)) u × IsAt a u block)
+      (λ u. Represents m a.labels (into block (hold_all (record s { env = [] }) env)) u × IsAt a u block)
   jump_goes env bound =
       let homes : List Home = roomy s m.homes in
       let lodged : (h : Home) → IsOne homes h → IsOne m.homes h = λ h one. (of_roomy s m.homes h one).0 in
@@ -129,7 +128,15 @@ module _ (a : Assembly) (m : Setting) (s : WordState) (t : State) (items : List 
       let c = completed m a.labels s t housed place stands.range m.homes (λ h one. housed.homes one.0 h one.1) is in
       let whole : WordState = with_env s c.env in
       let place2 : IsInPlace m whole = record {
-        next_from = place.next_from; next_to = place.next_to; next_whole = place.next_whole; top_from = place.top_from; top_to = place.top_to; top_whole = place.top_whole; statics = place.statics; heap = place.heap; stack = place.stack;
+        next_from = place.next_from;
+        next_to = place.next_to;
+        next_whole = place.next_whole;
+        top_from = place.top_from;
+        top_to = place.top_to;
+        top_whole = place.top_whole;
+        statics = place.statics;
+        heap = place.heap;
+        stack = place.stack;
       } in
       let rooms = tells m s (λ h w. Unit {0}) target.params args env can.params bound (λ k x to w e g there. tt) in
       arguments_go a m homes housed lodged whole t args (homes_of_params m.homes target) done c.is place2 (λ h one. let r = of_roomy s m.homes h one in c.each h r.0 r.1) can.operands comes
@@ -182,3 +189,62 @@ module _ (a : Assembly) (m : Setting) (s : WordState) (t : State) (items : List 
 
           gives : (k : ℕ) (x : Operand) (to : Home) (w : Word) → slice_get args k ≡ Some x → slice_get (map (home_of m.homes) target.params) k ≡ Some to → word_of m s x ≡ Some w → held y (At to) ≡ Some w
           gives k x to w e q there = g.gets k x to w e q (lifts x w k e there)
+
+-- ---- how many
+
+module _ (a : Assembly) (m : Setting) (homes : List Home) (housed : IsHoused m) (lodged : (h : Home) → IsOne homes h → IsOne m.homes h) where
+  few_steps : (args : List Operand) (places : List Home) (n : ℕ) → fill_steps a m homes housed lodged args places n + 3 * length (moves_to m.homes args places) ≤ n + 3 * length args
+  unfolding fill_steps moving
+  few_steps [] places n = omega arith
+  few_steps (x ∷ args) [] n = omega arith
+  few_steps (operand.Var v ∷ args) (p ∷ places) n = omega (arith, few_steps args places n)
+  few_steps (operand.Word k ∷ args) (p ∷ places) n = omega (arith, few_steps args places n)
+  few_steps (operand.Static k ∷ args) (p ∷ places) n = omega (arith, few_steps args places n)
+  few_steps (operand.Code k ∷ args) (p ∷ places) n = omega (arith, few_steps args places n)
+  few_steps (operand.Slot k ∷ args) (p ∷ places) n = omega (arith, few_steps args places n)
+
+  some_steps : (args : List Operand) (places : List Home) (n : ℕ) → n ≤ fill_steps a m homes housed lodged args places n
+  unfolding fill_steps
+  some_steps [] places n = omega arith
+  some_steps (x ∷ args) [] n = omega arith
+  some_steps (operand.Var v ∷ args) (p ∷ places) n = some_steps args places n
+  some_steps (operand.Word k ∷ args) (p ∷ places) n = omega (arith, some_steps args places n)
+  some_steps (operand.Static k ∷ args) (p ∷ places) n = omega (arith, some_steps args places n)
+  some_steps (operand.Code k ∷ args) (p ∷ places) n = omega (arith, some_steps args places n)
+  some_steps (operand.Slot k ∷ args) (p ∷ places) n = omega (arith, some_steps args places n)
+
+module _ (a : Assembly) (m : Setting) (s : WordState) (t : State) (items : List Item) (block : ℕ) (target : WordBlock) (args : List Operand) (done : List OneMove) (housed : IsHoused m) (place : IsInPlace m s) (is : Represents m a.labels s t)
+    (can : CanJump m s args target) (does : DoesAtOnce (moves_to m.homes args (homes_of_params m.homes target)) done)
+    (stands : Stands a t (moved_items done ++ (fill_items m.homes args (homes_of_params m.homes target) ++ Branch Bra block ∷ items))) where
+  jump_bounded : (env : Env Word) → pairs_of m s target.params (map (word_of m s) args) ≡ Some env → Entered a m s t (1 + 3 * length args) (Enters block env)
+  jump_bounded env bound =
+      let homes : List Home = roomy s m.homes in
+      let lodged : (h : Home) → IsOne homes h → IsOne m.homes h = λ h one. (of_roomy s m.homes h one).0 in
+      let count = steps_many a m homes housed lodged done (fill_steps a m homes housed lodged args (homes_of_params m.homes target) 1) in
+      let few = few_steps a m homes housed lodged args (homes_of_params m.homes target) 1 in
+      let some = some_steps a m homes housed lodged args (homes_of_params m.homes target) 1 in
+      widen a (steps_after a m homes housed lodged done (fill_steps a m homes housed lodged args (homes_of_params m.homes target) 1)) (1 + 3 * length args) t (λ u. Represents m a.labels (into block (hold_all (record s { env = [] }) env)) u × IsAt a u block)
+      (omega (arith, count, some)) (omega (arith, count, few, does.few)) (jump_goes a m s t items block target args done housed place is can does stands env bound)
+
+  jump_line : Entered a m s t (1 + 3 * length args) (jump_effect m s block args target)
+  jump_line = by_count (length args == length target.params)
+    where
+      by_pairs : (o : Option (Env Word)) → pairs_of m s target.params (map (word_of m s) args) ≡ o → Entered a m s t (1 + 3 * length args) (or_broken o (λ env. Enters block env))
+      by_pairs (Some env) e = jump_bounded env e
+      by_pairs None e = tt
+
+      by_count : (b : Bool) → Entered a m s t (1 + 3 * length args) (if b then enters m s block target.params args else breaks)
+      by_count true = by_pairs (pairs_of m s target.params (map (word_of m s) args)) refl
+      by_count false = tt
+
+pub jumps_arrive : JumpsArrive
+unfolding end_moves end_items places_of
+jumps_arrive a placed sizes s t items block target args done here opened housed place is can does stands =
+    let m : Setting = placed_in placed sizes in
+    let there : places_of placed block ≡ homes_of_params placed.at.items target =
+    ap (λ (b : Bool). if b then convention else homes_of_block placed block) opened ∙ ap (λ (o : Option WordBlock). option_map_or (homes_of_params placed.at.items) o []) here in
+    subst (λ o. Entered a m s t (1 + 3 * length args) (or_broken o (jump_effect m s block args))) (sym here)
+    (jump_line a m s t items block target args done housed place is can (subst (λ l. DoesAtOnce (moves_to placed.at.items args l) done) there does)
+    (subst (Stands a t) (append_assoc (moved_items done ++ fill_items placed.at.items args (homes_of_params placed.at.items target)) (Branch Bra block ∷ []) items
+    ∙ append_assoc (moved_items done) (fill_items placed.at.items args (homes_of_params placed.at.items target)) (Branch Bra block ∷ items))
+    (subst (λ l. Stands a t ((moved_items done ++ fill_items placed.at.items args l ++ Branch Bra block ∷ []) ++ items)) there stands)))

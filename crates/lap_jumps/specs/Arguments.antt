@@ -8,11 +8,9 @@ use Rattle.word_ir.specs.State.{Setting, State as WordState, At, held}
 use Rattle.word_ir.specs.Effects.{word_of}
 use Rattle.word_ir.specs.Ranges.{IsInPlace}
 use Rattle.m68020_step.specs.Step.{State}
-use Rattle.m68020_asm.specs.declared.item.Item.{Item}
 use Rattle.lap_items.specs.Homes.{home_of}
 use Rattle.lap_runs.specs.Represents.{Represents}
-use Rattle.lap_paths.specs.Paths.{Assembly, Stands}
-use Rattle.lap_paths.specs.Housed.{IsUsable}
+use Rattle.lap_paths.specs.Paths.{Assembly}
 use Rattle.lap_jumps.specs.Carries.{IsOne, KeepsOthers}
 
 -- no two places are the same
