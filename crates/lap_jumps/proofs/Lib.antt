@@ -6,3 +6,4 @@ pub mod Completing
 pub mod Arguments
 pub mod Binding
 pub mod Jumping
+pub mod Distinct

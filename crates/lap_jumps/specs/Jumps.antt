@@ -12,6 +12,7 @@ use Rattle.word_ir.specs.State.{Setting, State as WordState, At, has_room}
 use Rattle.word_ir.specs.Effects.{Effect, Binds, Stores, Takes, SetsTop, Puts, Turns, Enters, Ends, end_effect}
 use Rattle.word_ir.specs.Step.{changed, placed_in}
 use Rattle.word_ir.specs.Ranges.{IsInPlace}
+use Rattle.word_ir.specs.WholePlaced.{IsWholePlaced}
 use Rattle.parallel_moves.specs.declared.OneMove.{OneMove}
 use Rattle.m68020_step.specs.Step.{State}
 use Rattle.m68020_asm.specs.declared.item.Item.{Item}
@@ -50,3 +51,7 @@ JumpsArrive =
     → is_taken placed.words block ≡ false → IsHoused (placed_in placed sizes) → IsInPlace (placed_in placed sizes) s → Represents (placed_in placed sizes) a.labels s t → CanJump (placed_in placed sizes) s args target
     → DoesAtOnce (end_moves placed (last.Jump block args)) done → Stands a t (end_items placed (last.Jump block args) done ++ items)
     → Entered a (placed_in placed sizes) s t (1 + 3 * length args) (end_effect (placed_in placed sizes) s (last.Jump block args))
+
+-- In a whole program the parameters of each block have homes of their own.
+abbrev pub ParamsDistinct : Type 0
+ParamsDistinct = (placed : Placed) (b : ℕ) (block : WordBlock) → IsWholePlaced placed → slice_get placed.words.blocks.items b ≡ Some block → AreDistinct (homes_of_params placed.at.items block)

@@ -1,7 +1,7 @@
 //! Laws of moves between homes, as contracts of functions that do nothing.
 
 ghost use Rattle.lap_jumps.specs.Laws.{MovesCarry};
-ghost use Rattle.lap_jumps.specs.Jumps.{JumpsArrive};
+ghost use Rattle.lap_jumps.specs.Jumps.{JumpsArrive, ParamsDistinct};
 
 /// The items of moves one after another carry the word of each home: behind them the homes, and D7 between them, have the words that the
 /// moves give them, and nothing else has changed.
@@ -13,4 +13,9 @@ pub fn moves_carry()
 /// most three instructions for each argument and one more.
 pub fn jumps_arrive()
     ensures { JumpsArrive }
+{}
+
+/// In a whole program the parameters of each block have homes of their own, as a jump wants them.
+pub fn params_distinct()
+    ensures { ParamsDistinct }
 {}
