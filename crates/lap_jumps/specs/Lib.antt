@@ -1,0 +1,4 @@
+pub mod Carries
+pub mod Arguments
+pub mod Jumps
+pub mod Laws
