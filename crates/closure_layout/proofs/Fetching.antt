@@ -6,11 +6,11 @@ use Rattle.std.specs.Option.{option_map}
 use Rattle.t_base.specs.declared.basics.Var.{Var}
 use Rattle.frame_ir.specs.declared.forms.FrameOp.{FrameOp}
 use Rattle.layout_relation.specs.Laid.{numbers, Fetches, fetches_none}
-use Rattle.closure_layout.specs.declared.requests.Work.{Work}
-use Rattle.closure_layout.specs.Sketches.{Scoped, AreBelow}
-use Rattle.closure_layout.specs.Steps.{get_of, IsFetched}
-use Rattle.closure_layout.proofs.Growing.{below_more}
-use Rattle.closure_layout.proofs.Preparing.{unused_above, more_differs}
+use Rattle.layout_tables.specs.declared.requests.Work.{Work}
+use Rattle.layout_tables.specs.Sketches.{Scoped, AreBelow}
+use Rattle.closure_layout.specs.Blocks.{get_of, IsFetched}
+use Rattle.layout_tables.proofs.Growing.{below_more}
+use Rattle.layout_steps.proofs.Preparing.{unused_above, more_differs}
 use Rattle.closure_layout.proofs.Walking.{fetches_more}
 
 pub record FetchedSoFar (old new : Work) (vars held : Scoped) (before after : List FrameOp) (needs : List Var) (place : ℕ) (from : Option Var) : Type 0 where

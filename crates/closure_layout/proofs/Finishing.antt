@@ -1,10 +1,9 @@
 -- The whole layout.
 use Rattle.std.specs.Prelude.{IsSomeAnd}
-use Rattle.std.specs.List.{AllByRecursion}
 use Rattle.std.specs.Option.{option_map}
-use Rattle.std.proofs.Common.{◌≡◌, ℕ, zero, suc, ◌+◌, ◌<◌, ◌≤◌, false, List, [], ◌∷◌, ◌++◌, length, take, slice_get, Some, None, Option, refl, sym, ap, subst, ◌∙◌, arith, ⊎_elim}
+use Rattle.std.proofs.Common.{◌≡◌, ℕ, ◌+◌, ◌<◌, ◌≤◌, false, List, [], ◌∷◌, ◌++◌, length, slice_get, Some, None, Option, refl, sym, ap, subst, ◌∙◌, arith, ⊎_elim}
 use Rattle.std.proofs.lemmas.Bool.{cases_order}
-use Rattle.std.proofs.lemmas.List.{length-append, length-map, take_all}
+use Rattle.std.proofs.lemmas.List.{length-append, length-map}
 use Rattle.std.proofs.lemmas.Option.{slice_get-map, slice_get_within}
 use Rattle.t_base.specs.declared.basics.Var.{Var}
 use Rattle.cps_ir.specs.declared.terms.Cps.{Cps}
@@ -12,26 +11,16 @@ use Rattle.frame_ir.specs.declared.forms.Block.{Block}
 use Rattle.layout_relation.specs.Contexts.{Purpose, Begins, NoExit}
 use Rattle.layout_relation.specs.Laid.{IsFor, numbers, BlockFits, IsLaidOut}
 use Rattle.layout_relation.proofs.Lists.{get_front, some_at}
-use Rattle.closure_layout.specs.declared.tables.Tables.{Tables}
-use Rattle.closure_layout.specs.declared.requests.Work.{Work}
-use Rattle.closure_layout.specs.declared.requests.Request.{Request}
-use Rattle.closure_layout.specs.declared.requests.Request.TheVariants as For
-use Rattle.closure_layout.specs.Around.{Around}
-use Rattle.closure_layout.specs.Sketches.{Ever, Grows, lam_needs, vars_at, purpose_of, purposes_of, sketch_of}
-use Rattle.closure_layout.specs.Steps.{AreLaid, StandFirst, IsBlockFor}
-use Rattle.closure_layout.proofs.Growing.{grows_more, later}
+use Rattle.layout_tables.specs.declared.tables.Tables.{Tables}
+use Rattle.layout_tables.specs.declared.requests.Work.{Work}
+use Rattle.layout_tables.specs.declared.requests.Request.{Request}
+use Rattle.layout_tables.specs.declared.requests.Request.TheVariants as For
+use Rattle.layout_tables.specs.Around.{Around}
+use Rattle.layout_tables.specs.Sketches.{Ever, Grows, lam_needs, purpose_of, purposes_of, sketch_of}
+use Rattle.closure_layout.specs.Blocks.{AreLaid, StandFirst, IsBlockFor}
+use Rattle.layout_tables.proofs.Growing.{grows_more, later}
 use Rattle.cps_ir.specs.Parts.{first_lams, is_assigned}
 use Rattle.frame_ir.specs.declared.forms.Frames.{Frames}
-
--- ---- small needs
-
-pub small_all : (xs : List (List Var)) (n l : ℕ) → AllByRecursion (λ vs. length vs ≤ n) xs → length (vars_at xs l) ≤ n
-small_all [] n l h = omega arith
-small_all (x ∷ xs) n zero h = let e = length-map x (λ (z : Var). z.0) in let a = h.0 in omega (arith, e, a)
-small_all (x ∷ xs) n (suc l) h = small_all xs n l h.1
-
-pub small_taken : (xs : List (List Var)) (i n l : ℕ) → length xs ≤ i → AllByRecursion (λ vs. length vs ≤ n) (take i xs) → length (vars_at xs l) ≤ n
-small_taken xs i n l le h = small_all xs n l (subst (AllByRecursion (λ vs. length vs ≤ n)) (take_all i xs le) h)
 
 -- ---- the first codes
 

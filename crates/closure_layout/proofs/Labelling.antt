@@ -13,16 +13,16 @@ use Rattle.frame_ir.specs.declared.forms.FrameOp.TheVariants as Op
 use Rattle.frame_ir.specs.declared.forms.FrameEnd.{FrameEnd}
 use Rattle.layout_relation.specs.Contexts.{IsUnused, paired}
 use Rattle.layout_relation.specs.Laid.{Sketch, MakesClosure, Labels, labels_none, labels_one, AreDistinct, numbers, made_by, GoesOn, lays_labels}
-use Rattle.closure_layout.specs.declared.tables.Tables.{Tables}
-use Rattle.closure_layout.specs.declared.requests.Work.{Work}
-use Rattle.closure_layout.specs.declared.lines.Line.{Line}
-use Rattle.closure_layout.specs.declared.lines.Step.TheVariants.{Done}
-use Rattle.closure_layout.specs.Sketches.{Scoped, Ever, Grows, AreBelow, KnowsFirst, counted, sketch_of, context_at, context_of, rank_of}
-use Rattle.closure_layout.specs.Steps.{MakesNew, IsLaid, Ends}
+use Rattle.layout_tables.specs.declared.tables.Tables.{Tables}
+use Rattle.layout_tables.specs.declared.requests.Work.{Work}
+use Rattle.layout_tables.specs.declared.lines.Line.{Line}
+use Rattle.layout_tables.specs.declared.lines.Step.TheVariants.{Done}
+use Rattle.layout_tables.specs.Sketches.{Scoped, Ever, Grows, AreBelow, KnowsFirst, counted, sketch_of, context_at, context_of, rank_of}
+use Rattle.layout_steps.specs.Steps.{MakesNew, IsLaid, Ends}
 use Rattle.closure_layout.specs.Labelled.{MayName, MakesAll}
-use Rattle.closure_layout.proofs.Basics.{take_more}
-use Rattle.closure_layout.proofs.Growing.{later, grows_none, grows_same, grows_more, below_more}
-use Rattle.closure_layout.proofs.Preparing.{unused_above, more_differs, made_by_join, is_in_join}
+use Rattle.layout_tables.proofs.Basics.{take_more}
+use Rattle.layout_tables.proofs.Growing.{later, grows_none, grows_same, grows_more, below_more}
+use Rattle.layout_steps.proofs.Preparing.{unused_above, more_differs, made_by_join, is_in_join}
 use Rattle.closure_layout.proofs.Walking.{pairs_below}
 
 head_same : (a b : ℕ) (as_ bs : List ℕ) → a ∷ as_ ≡ b ∷ bs → a ≡ b

@@ -14,19 +14,19 @@ use Rattle.layout_relation.specs.Laid.{Lays, lays, AreDistinct, numbers, Fetches
 use Rattle.cps_ir.specs.declared.terms.Lam.{Lam}
 use Rattle.frame_ir.specs.declared.forms.FrameEnd.TheVariants as Last
 use Rattle.std.specs.List.{AllByRecursion}
-use Rattle.closure_layout.specs.declared.tables.Tables.{Tables}
-use Rattle.closure_layout.specs.declared.requests.Work.{Work}
-use Rattle.closure_layout.specs.declared.requests.Request.TheVariants as For
-use Rattle.closure_layout.specs.declared.lines.Line.{Line}
-use Rattle.closure_layout.specs.declared.lines.Step.TheVariants.{Next, Done}
-use Rattle.closure_layout.specs.Around.{Around}
-use Rattle.closure_layout.specs.Sketches.{Scoped, Ever, Grows, AreBelow, context_at, context_of, sketch_of, counted, needs_behind, term_needs, is_celled, exits_at, lam_needs, purpose_of}
-use Rattle.closure_layout.specs.Steps.{IsStep, IsLaidFrom, IsBlockFor, IsOpened, IsFetched, IsCallable}
+use Rattle.layout_tables.specs.declared.tables.Tables.{Tables}
+use Rattle.layout_tables.specs.declared.requests.Work.{Work}
+use Rattle.layout_tables.specs.declared.requests.Request.TheVariants as For
+use Rattle.layout_tables.specs.declared.lines.Line.{Line}
+use Rattle.layout_tables.specs.declared.lines.Step.TheVariants.{Next, Done}
+use Rattle.layout_tables.specs.Around.{Around}
+use Rattle.layout_tables.specs.Sketches.{Scoped, Ever, Grows, AreBelow, context_at, context_of, sketch_of, counted, needs_behind, term_needs, is_celled, exits_at, lam_needs, purpose_of}
+use Rattle.closure_layout.specs.Blocks.{IsStep, IsLaidFrom, IsBlockFor, IsOpened, IsFetched, IsCallable}
 use Rattle.closure_layout.specs.declared.blocks.OpenScope.{OpenScope}
-use Rattle.closure_layout.proofs.Basics.{not_behind}
+use Rattle.layout_tables.proofs.Basics.{not_behind}
 use Rattle.layout_relation.proofs.Scopes.{eqb_same}
-use Rattle.closure_layout.proofs.Growing.{grows_more, grows_same, later}
-use Rattle.closure_layout.proofs.Preparing.{more_differs}
+use Rattle.layout_tables.proofs.Growing.{grows_more, grows_same, later}
+use Rattle.layout_steps.proofs.Preparing.{more_differs}
 
 module _ (cps : Cps) (w : Tables) where
   -- a line on its way

@@ -6,10 +6,10 @@ use Rattle.cps_ir.specs.declared.terms.Cps.{Cps}
 use Rattle.frame_ir.specs.declared.forms.FrameOp.{FrameOp}
 use Rattle.layout_relation.specs.Contexts.{IsFresh}
 use Rattle.layout_relation.specs.Laid.{Labels, numbers}
-use Rattle.closure_layout.specs.declared.tables.Tables.{Tables}
-use Rattle.closure_layout.specs.declared.requests.Work.{Work}
-use Rattle.closure_layout.specs.Around.{Around}
-use Rattle.closure_layout.specs.Sketches.{Scoped, Ever, Grows, counted, context_at, is_celled, KnowsFirst}
+use Rattle.layout_tables.specs.declared.tables.Tables.{Tables}
+use Rattle.layout_tables.specs.declared.requests.Work.{Work}
+use Rattle.layout_tables.specs.Around.{Around}
+use Rattle.layout_tables.specs.Sketches.{Scoped, Ever, Grows, counted, context_at, is_celled, KnowsFirst}
 
 -- a name may be bound, and so may each of some
 abbrev pub MayNameOne : Tables → Scoped → Around → Var → Type 0

@@ -1,4 +1,2 @@
-pub mod Around
-pub mod Sketches
-pub mod Steps
+pub mod Blocks
 pub mod Labelled

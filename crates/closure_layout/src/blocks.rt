@@ -2,25 +2,22 @@
 ghost use Rattle.std.specs.Prelude.{◌≡◌, ◌∷◌, [], ◌++◌, ◌<◌, ◌≤◌, ℕ, IfOk, OnOk, IsTrue};
 ghost use Rattle.layout_relation.specs.Contexts.{paired};
 ghost use Rattle.layout_relation.specs.Laid.{numbers};
-ghost use Rattle.closure_layout.specs.Sketches.{AreBelow, KnowsFirst, counted};
-ghost use Rattle.closure_layout.specs.Steps.{IsStep, IsLaidFrom, IsBlockFor, IsFetched, IsOpened, AreApart, IsCallable, get_of};
-ghost use Rattle.closure_layout.specs.declared.requests.Request.TheVariants as For;
+ghost use Rattle.layout_tables.specs.Sketches.{AreBelow, KnowsFirst, counted};
+ghost use Rattle.closure_layout.specs.Blocks.{IsStep, IsLaidFrom, IsBlockFor, IsFetched, IsOpened, AreApart, IsCallable, get_of};
+ghost use Rattle.layout_tables.specs.declared.requests.Request.TheVariants as For;
 
-use crate::catches::{lay_catch, lay_uncatch};
-use crate::cells::{lay_cell, lay_cell_get, lay_cell_set};
-use crate::giving::{are_few, jump};
 use crate::labels::lay_labels;
-use crate::lines::{Line, Step};
-use crate::requests::{Request, Work};
-use crate::scopes::{Scope, are_distinct, find_all, names};
-use crate::sites::Site;
-use crate::tables::{Tables, is_celled, lam_needs, needs_behind};
-use crate::terms::{
-    lay_call, lay_give, lay_global_get, lay_global_init, lay_global_set, lay_halt, lay_if,
-    lay_join, lay_prim,
-};
 use cps_ir::{Arg, Cps, Term};
 use frame_ir::{Block, FrameEnd, FrameOp};
+use layout_steps::{
+    are_few, jump, lay_call, lay_catch, lay_cell, lay_cell_get, lay_cell_set, lay_give,
+    lay_global_get, lay_global_init, lay_global_set, lay_halt, lay_if, lay_join, lay_prim,
+    lay_uncatch,
+};
+use layout_tables::{
+    Line, Request, Scope, Site, Step, Tables, Work, are_distinct, find_all, is_celled, lam_needs,
+    names, needs_behind,
+};
 use std::alloc::Global;
 use t_base::{Memory, Var, Vars};
 

@@ -2,18 +2,13 @@
 ghost use Rattle.std.specs.Prelude.{◌≡◌, length, IfOk, OnOk, IsTrue};
 ghost use Rattle.cps_ir.specs.declared.terms.Term.TheVariants as Node;
 ghost use Rattle.closure_layout.specs.Labelled.{MayName, MayNameOne, MakesAll};
-ghost use Rattle.closure_layout.specs.Sketches.{AreBelow, KnowsFirst};
-ghost use Rattle.closure_layout.specs.Steps.{IsLaid};
+ghost use Rattle.layout_tables.specs.Sketches.{AreBelow, KnowsFirst};
+ghost use Rattle.layout_steps.specs.Steps.{IsLaid};
 
-use crate::arguments::closure;
-use crate::giving::{go_to, is_fresh};
-use crate::lines::{Line, Step};
-use crate::requests::Work;
-use crate::scopes::{Scope, are_distinct};
-use crate::sites::Site;
-use crate::tables::{Tables, is_celled, rank_of};
 use cps_ir::Cps;
 use frame_ir::FrameOp;
+use layout_steps::{closure, go_to, is_fresh};
+use layout_tables::{Line, Scope, Site, Step, Tables, Work, are_distinct, is_celled, rank_of};
 use std::alloc::Global;
 use t_base::{Keys, Memory, Var, Vars};
 

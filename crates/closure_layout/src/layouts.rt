@@ -3,15 +3,13 @@ ghost use Rattle.std.specs.Prelude.{◌≡◌, ℕ, [], false, length, IfOk, OnO
 ghost use Rattle.cps_ir.specs.Parts.{is_assigned};
 ghost use Rattle.cps_ir.specs.Whole.{IsWhole};
 ghost use Rattle.layout_relation.specs.Laid.{IsLaidOut};
-ghost use Rattle.closure_layout.specs.Sketches.{KnowsFirst};
-ghost use Rattle.closure_layout.specs.Steps.{AreLaid, StandFirst};
+ghost use Rattle.layout_tables.specs.Sketches.{KnowsFirst};
+ghost use Rattle.closure_layout.specs.Blocks.{AreLaid, StandFirst};
 
 use crate::blocks::lay_block;
-use crate::requests::{Request, Work, copy_request};
-use crate::sites::Site;
-use crate::tables::{Tables, are_small, lam_needs, tables_of};
 use cps_ir::Cps;
 use frame_ir::{Block, Frames};
+use layout_tables::{Request, Site, Tables, Work, are_small, copy_request, lam_needs, tables_of};
 use std::alloc::Global;
 use t_base::{Memory, Vars};
 

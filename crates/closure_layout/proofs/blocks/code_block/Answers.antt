@@ -1,10 +1,10 @@
 use Rattle.std.proofs.Common.{refl, ap, subst, ◌∙◌, [], ◌∷◌, ◌++◌, Some}
 use Rattle.frame_ir.specs.declared.forms.FrameEnd.TheVariants as Last
 use Rattle.layout_relation.specs.Laid.{variables, IsFor, numbers, AreHeld}
-use Rattle.closure_layout.specs.declared.requests.Request.TheVariants as For
-use Rattle.closure_layout.specs.Sketches.{Ever, purpose_of}
-use Rattle.closure_layout.specs.Steps.{IsFetched}
-use Rattle.closure_layout.proofs.Growing.{grows_asked, asked}
+use Rattle.layout_tables.specs.declared.requests.Request.TheVariants as For
+use Rattle.layout_tables.specs.Sketches.{Ever, purpose_of}
+use Rattle.closure_layout.specs.Blocks.{IsFetched}
+use Rattle.layout_tables.proofs.Growing.{grows_asked, asked}
 use Rattle.closure_layout.proofs.Walking.{code_fits, opened_below, item_there}
 use Rattle.closure_layout.proofs.blocks.code_block.Goals as goal
 

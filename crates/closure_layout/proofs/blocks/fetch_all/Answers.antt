@@ -1,5 +1,5 @@
 use Rattle.std.proofs.Common.{ap, ◌∙◌, rules}
-use Rattle.closure_layout.specs.Steps.{get_of}
+use Rattle.closure_layout.specs.Blocks.{get_of}
 use Rattle.closure_layout.proofs.Fetching.{fetched_none, fetched_more}
 use Rattle.closure_layout.proofs.blocks.fetch_all.Goals as goal
 

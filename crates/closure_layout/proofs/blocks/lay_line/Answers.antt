@@ -1,5 +1,5 @@
 use Rattle.std.proofs.Common.{subst}
-use Rattle.closure_layout.specs.Steps.{IsStep}
+use Rattle.closure_layout.specs.Blocks.{IsStep}
 use Rattle.closure_layout.proofs.Walking.{sets_out, goes_on, arrives_at}
 use Rattle.closure_layout.proofs.blocks.lay_line.Goals as goal
 

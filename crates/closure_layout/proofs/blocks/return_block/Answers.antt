@@ -1,7 +1,7 @@
 use Rattle.std.proofs.Common.{refl, sym, ap, subst, ◌∙◌, ◌≤◌, ◌+◌, [], ◌∷◌, ◌++◌, None}
 use Rattle.layout_relation.specs.Contexts.{IsUnneeded}
-use Rattle.closure_layout.specs.Sketches.{exits_at}
-use Rattle.closure_layout.specs.Steps.{IsFetched}
+use Rattle.layout_tables.specs.Sketches.{exits_at}
+use Rattle.closure_layout.specs.Blocks.{IsFetched}
 use Rattle.closure_layout.proofs.Walking.{return_fits}
 use Rattle.closure_layout.proofs.blocks.return_block.Goals as goal
 

@@ -1,7 +1,7 @@
 use Rattle.std.proofs.Common.{refl, sym, ap, subst, ◌∙◌, length, ◌<◌, ◌+◌, ◌++◌}
 use Rattle.layout_relation.specs.Contexts.{paired}
 use Rattle.layout_relation.specs.Laid.{numbers, AreDistinct}
-use Rattle.closure_layout.specs.Sketches.{counted, rank_of}
+use Rattle.layout_tables.specs.Sketches.{counted, rank_of}
 use Rattle.closure_layout.specs.Labelled.{MayName, MakesAll}
 use Rattle.closure_layout.proofs.Walking.{new_length}
 use Rattle.closure_layout.proofs.Labelling.{laid_labels}

@@ -1,4 +1,4 @@
-use Rattle.closure_layout.specs.Steps.{StandFirst}
+use Rattle.closure_layout.specs.Blocks.{StandFirst}
 use Rattle.closure_layout.proofs.layouts.request_firsts.Given as goal
 
 abbrev pub invariant-loop-place : goal.invariant-loop-place

@@ -1,9 +1,0 @@
-use Rattle.std.proofs.Common.{refl}
-use Rattle.closure_layout.proofs.Basics.{same_more, same_all}
-use Rattle.closure_layout.proofs.sites.same_joins.Goals as goal
-
-pub loop-place-preserved : goal.loop-place-preserved
-loop-place-preserved c = same_more c.args.joins.now c.args.others.now c.loop-place.place _ _ c.loop-place-test.true c.if-joins-others.false c.loop-place.invariant (c.if-not-is_same_join.ensures refl)
-
-pub returns : goal.returns
-returns c = λ t. same_all c.args.joins.now c.args.others.now c.loop-place.place c.loop-place-test.false c.if-joins-others.false c.loop-place.invariant

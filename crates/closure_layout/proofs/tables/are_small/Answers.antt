@@ -1,7 +1,0 @@
-use Rattle.std.proofs.Common.{subst, ◌≤◌, length}
-use Rattle.closure_layout.specs.Sketches.{vars_at}
-use Rattle.closure_layout.proofs.Finishing.{small_taken}
-use Rattle.closure_layout.proofs.tables.are_small.Goals as goal
-
-pub returns : goal.returns
-returns c = λ t l. subst (λ xs. length (vars_at xs l) ≤ c.args.cps.now.shared.size) c.deref-vars-items.ensures.value (small_taken c.deref-vars-items.result.now c.loop-vars.vars-index c.args.cps.now.shared.size l c.loop-vars-test.false c.loop-vars.invariant)
