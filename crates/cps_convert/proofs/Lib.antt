@@ -7,3 +7,5 @@ mod Blocks
 mod Groups
 mod Lets
 mod Labels
+mod Roots
+mod Falling

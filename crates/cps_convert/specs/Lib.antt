@@ -3,3 +3,4 @@ pub mod Claims
 pub mod Operands
 pub mod Naming
 pub mod Kinds
+pub mod Forms

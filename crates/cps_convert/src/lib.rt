@@ -6,6 +6,8 @@ mod nodes;
 mod operands;
 mod ready;
 mod terms;
+mod top_forms;
 mod variables;
 
 pub use crate::conversion::Conversion;
+pub use crate::top_forms::forms;

@@ -20,7 +20,7 @@ use t_core::{Core, Method, UnitCore};
 /// The values of nodes go to their variables, from left to right, in front of the term at a place. The nodes stand before the one at
 /// `key`.
 #[cycle(nodes)]
-fn evaluate(
+pub(crate) fn evaluate(
     alloc: Global,
     unit: &UnitCore,
     marks: &[bool],
