@@ -3,6 +3,8 @@
 
 mod marks;
 mod numbers;
+mod setting;
 
 pub use crate::marks::marks_of;
 pub use crate::numbers::first_new;
+pub use crate::setting::{Known, survey};
