@@ -11,7 +11,7 @@ use t_base::{Memory, Name, Names, OpInfo, Shared, Var, Vars};
 use trace_regs::assign;
 use word_ir::{Arith, Home, Operand, Operands, WordBlock, WordEnd, WordOp, Words};
 
-fn shared_of(alloc: Global) -> Result<Shared, Memory>
+pub fn shared_of(alloc: Global) -> Result<Shared, Memory>
     ensures { IfOk result (λ shared. IsCopyOfShared (sum_shared alloc) shared) }
 {
     let mut names = Names::new(alloc);
@@ -32,7 +32,12 @@ fn shared_of(alloc: Global) -> Result<Shared, Memory>
 }
 
 /// A block that ends with a service.
-fn ending(alloc: Global, params: &[Var], number: u8, operand: Operand) -> Result<WordBlock, Memory>
+pub fn ending(
+    alloc: Global,
+    params: &[Var],
+    number: u8,
+    operand: Operand,
+) -> Result<WordBlock, Memory>
     ensures { IfOk result (λ block. IsCopyOfBlock (last_block alloc params.now number operand) block) }
 {
     let params = Vec::from_slice(alloc, params)?;

@@ -5,6 +5,8 @@
 #[cfg(test)]
 mod chains;
 #[cfg(test)]
+mod codes;
+#[cfg(test)]
 mod homes;
 #[cfg(test)]
 mod moves;
