@@ -9,3 +9,4 @@ mod Lets
 mod Labels
 mod Roots
 mod Falling
+mod Firsts
