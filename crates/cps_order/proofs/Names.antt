@@ -1,15 +1,19 @@
 -- Marks of what is named.
-use Rattle.std.proofs.Common.{◌≡◌, ℕ, zero, suc, ◌+◌, ◌<◌, ◌≤◌, ◌==◌, ◌||◌, Bool, true, false, List, [], ◌∷◌, ◌++◌, Some, None, length, take, drop, get_or, slice_get, inl, inr, refl, sym, ap, ◌∙◌, subst, arith}
+use Rattle.std.proofs.Common.{◌≡◌, ℕ, zero, suc, ◌+◌, ◌<◌, ◌≤◌, ◌==◌, ◌||◌, Bool, true, false, List, [], ◌∷◌, ◌++◌, Option, Some, None, length, map, take, drop, get_or, nat_lt, not, slice_get, inl, inr, refl, sym, ap, ◌∙◌, subst, arith}
+use Rattle.std.specs.List.{flat_map, filter_map}
 use Rattle.std.proofs.lemmas.Bool.{true≢false, eqb-true, cases_lt}
-use Rattle.std.proofs.lemmas.List.{take_more, drop_more}
+use Rattle.std.proofs.lemmas.List.{take_more, drop_more, append-nil, append_assoc}
 use Rattle.std.proofs.lemmas.List.Concat.{flat_map-cons}
-use Rattle.std.proofs.lemmas.List.Elements.{All-append, All-cons, All-nil}
+use Rattle.std.proofs.lemmas.Grind.{flat_map-append}
+use Rattle.std.proofs.lemmas.List.Elements.{All-append, All-cons, All-nil, filter_map-append}
 use Rattle.std.proofs.lemmas.Option.{slice_get-get_or}
+use Rattle.t_base.specs.declared.basics.Var.{Var}
 use Rattle.cps_ir.specs.declared.terms.Term.{Term}
 use Rattle.cps_ir.specs.declared.terms.Cps.{Cps}
+use Rattle.cps_ir.specs.Parts.{variable_of, named}
 use Rattle.cps_walk.specs.Marked.{is_marked}
 use Rattle.cps_walk.specs.Walks.{part_places, root_places}
-use Rattle.cps_order.specs.Order.{one, tally, named_by, AreBelow, NamesBelow, AreNamed, IsOrderedFrom, IsOrdered}
+use Rattle.cps_order.specs.Order.{one, tally, numbers_of, named_by, AreBelow, NamesBelow, AreNamed, IsOrderedFrom, IsOrdered}
 
 -- ---- tallies
 
@@ -122,3 +126,33 @@ ordered_end cps first_marks marks roots h = record {
   lower = λ t. h.lower t (omega arith);
   once = λ t lt. let c = h.counts t in let n = h.named t (omega arith) lt in omega (arith, c, n);
 }
+
+-- ---- what items of a list name
+
+pub flat_named : {X : Type 0} (f : X → List ℕ) (above : ℕ) (xs : List X) (i : ℕ) (d : X) (a b c : List Bool) → i < length xs → AreNamed above (flat_map f (take i xs)) a b → AreNamed above (f (get_or xs i d)) b c → AreNamed above (flat_map f (take (i + 1) xs)) a c
+flat_named f above xs i d a b c lt h g =
+    let e : flat_map f (take (i + 1) xs) ≡ flat_map f (take i xs) ++ f (get_or xs i d) =
+    ap (flat_map f) (take_more xs i d lt) ∙ flat_map-append f (take i xs) (get_or xs i d ∷ []) ∙ ap (λ l. flat_map f (take i xs) ++ l) (flat_map-cons f (get_or xs i d) [] ∙ append-nil (f (get_or xs i d))) in
+    subst (λ l. AreNamed above l a c) (sym e) (named_both above (flat_map f (take i xs)) (f (get_or xs i d)) a b c h g)
+
+pub lams_once : (count first : ℕ) (named : List ℕ) (old new : List Bool) → ((l : ℕ) → is_marked old l ≡ nat_lt l first) → AreNamed count named old new → ((l : ℕ) → l < count → is_marked new l ≡ true) → (l : ℕ) → l < count → tally named l ≡ one (not (nat_lt l first))
+lams_once count first named old new start h all l lt = by (nat_lt l first) (start l)
+  where
+    by : (b : Bool) → is_marked old l ≡ b → tally named l ≡ one (not b)
+    by true e = let c = h.counts l in let p = ap one (all l lt) in let q = ap one e in omega (arith, c, p, q)
+    by false e = let c = h.counts l in let p = ap one (all l lt) in let q = ap one e in omega (arith, c, p, q)
+
+pub bound_once : (above : ℕ) (xs ys : List ℕ) (mid marks : List Bool) → AreNamed above xs [] mid → AreNamed above ys mid marks → (x : ℕ) → tally (xs ++ ys) x ≤ 1
+bound_once above xs ys mid marks h g x =
+    let c = (named_both above xs ys [] mid marks h g).counts x in
+    let most = at_most (is_marked marks x) in
+    omega (arith, c, most)
+
+pub kept_more : {X : Type 0} (h : X → Option ℕ) (a b c : List ℕ) (xs : List X) (i : ℕ) (d : X) → i < length xs → b ≡ a ++ filter_map h (take i xs) → c ≡ b ++ filter_map h (get_or xs i d ∷ []) → c ≡ a ++ filter_map h (take (i + 1) xs)
+kept_more h a b c xs i d lt e f =
+    f ∙ ap (λ l. l ++ filter_map h (get_or xs i d ∷ [])) e ∙ append_assoc a (filter_map h (take i xs)) (filter_map h (get_or xs i d ∷ []))
+    ∙ ap (λ l. a ++ l) (sym (filter_map-append h (take i xs) (get_or xs i d ∷ [])) ∙ sym (ap (filter_map h) (take_more xs i d lt)))
+
+pub names_numbered : (vars : List Var) → numbers_of vars ≡ map variable_of (named vars) ++ []
+names_numbered [] = refl
+names_numbered (v ∷ vars) = ap (λ l. v.0 ∷ l) (names_numbered vars)

@@ -1,8 +1,10 @@
 -- Programs whose terms stand in order.
-use Rattle.std.specs.Prelude.{◌≡◌, ℕ, ◌+◌, ◌<◌, ◌≤◌, ◌==◌, Bool, if◌then◌else◌, List, [], ◌∷◌, length, drop, slice_get, All, Some}
+use Rattle.std.specs.Prelude.{◌≡◌, ℕ, ◌+◌, ◌<◌, ◌≤◌, ◌==◌, Bool, nat_lt, not, if◌then◌else◌, List, [], ◌∷◌, ◌++◌, length, map, drop, slice_get, All, Some}
 use Rattle.std.specs.List.{flat_map}
+use Rattle.t_base.specs.declared.basics.Var.{Var}
 use Rattle.cps_ir.specs.declared.terms.Term.{Term}
 use Rattle.cps_ir.specs.declared.terms.Cps.{Cps}
+use Rattle.cps_ir.specs.Parts.{Part, first_lams, lams_of, own_binders, lam_binders, variable_of}
 use Rattle.cps_walk.specs.Marked.{is_marked}
 use Rattle.cps_walk.specs.Walks.{part_places, root_places}
 
@@ -35,6 +37,30 @@ pub record IsOrdered (cps : Cps) : Type 0 where
   pub roots : AreBelow (length cps.terms.items) (root_places cps)
   pub lower : (t : ℕ) → NamesBelow cps t
   pub once : (t : ℕ) → t < length cps.terms.items → named_from cps 0 t ≡ 1
+
+-- ---- procedures and variables
+
+-- the places of procedures that all listed terms name
+abbrev pub named_lams : Cps → List ℕ
+named_lams cps = flat_map lams_of cps.terms.items
+
+abbrev pub numbers_of : List Var → List ℕ
+numbers_of vars = map (λ x. x.0) vars
+
+-- the variables that are bound around parts
+abbrev pub bound_by : List Part → List ℕ
+bound_by parts = flat_map (λ p. map variable_of p.binds) parts
+
+-- the variables that all listed terms and procedures bind
+abbrev pub listed_binders : Cps → List ℕ
+listed_binders cps = flat_map own_binders cps.terms.items ++ flat_map lam_binders cps.lams.items
+
+-- The parts of a program stand apart: terms are in order, each procedure is named exactly once, but for those of globals and operations,
+-- which no term names, and no variable is bound twice.
+pub record StandsApart (cps : Cps) : Type 0 where
+  pub ordered : IsOrdered cps
+  pub lams_once : (l : ℕ) → l < length cps.lams.items → tally (named_lams cps) l ≡ one (not (nat_lt l (first_lams cps)))
+  pub bound_once : (x : ℕ) → tally (listed_binders cps) x ≤ 1
 
 -- ---- marks of what is named
 

@@ -24,7 +24,7 @@ fn name_place(marks: &mut Vec<bool>, above: usize, place: u32) -> Result<(), Mem
 }
 
 /// Marks places below a bound, each of which isn't marked yet.
-fn name_places(marks: &mut Vec<bool>, above: usize, places: &[u32]) -> Result<(), Memory>
+pub(crate) fn name_places(marks: &mut Vec<bool>, above: usize, places: &[u32]) -> Result<(), Memory>
     ensures { OnOk result (AreNamed above places.now marks.old.items marks.new.items) }
 {
     'places: for place in places {

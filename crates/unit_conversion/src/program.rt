@@ -2,6 +2,7 @@
 ghost use Rattle.std.specs.Prelude.{◌≡◌, ◌++◌, IfOk, OnOk, map};
 ghost use Rattle.t_core.specs.Whole.{IsWhole};
 ghost use Rattle.cps_conversion.specs.Conversion.{Converts};
+ghost use Rattle.cps_order.specs.Order.{StandsApart};
 ghost use Rattle.cps_convert.specs.Claims.{HasMarks};
 ghost use Rattle.unit_conversion.specs.Parts.{lam_of, ArePartsOf, IsJoined};
 
@@ -9,7 +10,7 @@ use crate::first_lams::{count_firsts, default_lams, global_lams};
 use crate::sites::sites_of;
 use cps_convert::{Conversion, Procedure, forms};
 use cps_ir::{Cps, Lam};
-use cps_order::{check_assigned, check_order};
+use cps_order::{check_apart, check_assigned};
 use cps_units::{Known, survey};
 use std::alloc::Global;
 use t_base::Memory;
@@ -95,19 +96,20 @@ fn joined(unit: UnitCore, parts: Parts) -> Result<Cps, Memory>
     })
 }
 
-/// The program in continuation-passing style that stands for a whole unit. It is linear in the unit's nodes, and recurs no deeper than a form
-/// has nodes. The shared parts are moved. The only error is `Memory`: there is no memory, more terms, procedures or variables are wanted
-/// than numbers of 32 bits count, or what was made fails the check that each of its terms is named exactly once and that it assigns the
-/// unit's variables, which ends each conversion.
+/// The program in continuation-passing style that stands for a whole unit, whose parts stand apart. It is linear in the unit's nodes, and
+/// recurs no deeper than a form has nodes. The shared parts are moved. The only error is `Memory`: there is no memory, more terms, procedures
+/// or variables are wanted than numbers of 32 bits count, or what was made fails the checks which end each conversion: that each term and
+/// procedure is named once and each variable bound once, and that the variables that are assigned are the unit's.
 pub fn convert(alloc: Global, unit: UnitCore) -> Result<Cps, Memory>
     requires { IsWhole unit }
-    ensures { IfOk result (Converts unit) }
+    ensures converts { IfOk result (Converts unit) }
+    ensures apart { IfOk result StandsApart }
 {
     let known = survey(alloc, &unit)?;
     let parts = parts_of(alloc, &unit, &known)?;
     let first = parts.made.first as usize;
     let cps = joined(unit, parts)?;
-    check_order(alloc, &cps, first)?;
+    check_apart(alloc, &cps, first)?;
     check_assigned(alloc, &cps, known.marks.as_slice())?;
     Ok(cps)
 }
