@@ -1,4 +1,4 @@
-mod Listing
+pub mod Listing
 mod Spots
 mod Steps
 mod Own
@@ -7,5 +7,6 @@ mod Blocks
 mod Groups
 mod Lets
 mod Labels
-mod Roots
+pub mod Roots
 mod Falling
+mod Firsts

@@ -24,10 +24,10 @@ use Rattle.cps_convert.specs.Naming.{IsName, AreNames, IsNamed, AreNamed}
 -- ---- growth
 
 pub grows_same : (a : Conversion) → GrowsTo a a
-grows_same a = record { includes = λ x h. h; next = omega arith }
+grows_same a = record { includes = λ x h. h; first = refl; next = omega arith }
 
 pub grows_more : (a b c : Conversion) → GrowsTo a b → GrowsTo b c → GrowsTo a c
-grows_more a b c h k = record { includes = λ x i. h.includes x (k.includes x i); next = omega (arith, h.next, k.next) }
+grows_more a b c h k = record { includes = λ x i. h.includes x (k.includes x i); first = k.first ∙ h.first; next = omega (arith, h.next, k.next) }
 
 -- ---- operands
 

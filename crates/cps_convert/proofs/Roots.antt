@@ -30,10 +30,10 @@ use Rattle.cps_convert.proofs.Spots.{fresh_unassigned, fresh_new, child, over}
 
 -- ---- roots
 
-none_outer : (unit : UnitCore) (base next form least : ℕ) → AreOuter unit base next form least []
+pub none_outer : (unit : UnitCore) (base next form least : ℕ) → AreOuter unit base next form least []
 none_outer unit base next form least v e = absurd (true≢false (sym e))
 
-root_scoped : (unit : UnitCore) (marks : List Bool) (base at : ℕ) (form : Form) → Setting unit marks base → slice_get unit.forms.items at ≡ Some form → 0 < length form.nodes.items → IsScopedIn unit at form.root []
+pub root_scoped : (unit : UnitCore) (marks : List Bool) (base at : ℕ) (form : Form) → Setting unit marks base → slice_get unit.forms.items at ≡ Some form → 0 < length form.nodes.items → IsScopedIn unit at form.root []
 root_scoped unit marks base at form setting there some =
     let e : nodes_of unit at ≡ form.nodes.items = ap (λ o. option_map_or (λ f. f.nodes.items) o []) there in
     record {
@@ -74,7 +74,7 @@ init_converted unit marks a b c d e at form g rest last t unused arg jobs value 
       };
 }
 
-no_lambda : (at : ℕ) (o : Option Core) → option_map_or is_lambda o false ≡ false → procedure_of at o ≡ None
+pub no_lambda : (at : ℕ) (o : Option Core) → option_map_or is_lambda o false ≡ false → procedure_of at o ≡ None
 no_lambda at None e = refl
 no_lambda at (Some (Node.Lambda params body)) e = absurd (true≢false e)
 no_lambda at (Some (Node.Const c)) e = refl

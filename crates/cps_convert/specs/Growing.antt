@@ -21,6 +21,7 @@ pub record Includes (x : Translation) (c : Conversion) : Type 0 where
 -- the conversion goes on: what is made stays where it is, and no number of a variable is taken again
 pub record GrowsTo (a b : Conversion) : Type 0 where
   pub includes : (x : Translation) → Includes x b → Includes x a
+  pub first : b.first ≡ a.first
   pub next : a.next ≤ b.next
 
 -- a term is made, at this place

@@ -4,3 +4,4 @@ pub mod Operands
 pub mod Naming
 pub mod Kinds
 pub mod Forms
+pub mod Firsts

@@ -6,5 +6,5 @@ mod parts;
 mod walks;
 
 pub use crate::marks::{is_marked, mark};
-pub use crate::parts::{first_lams, global_lams};
+pub use crate::parts::{first_lams, global_lams, push_parts, push_roots};
 pub use crate::walks::walk;

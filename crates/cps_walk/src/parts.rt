@@ -177,13 +177,9 @@ fn push_own(term: &Term, waiting: &mut Vec<u32>) -> Result<(), Memory>
     }
 }
 
-/// Puts the parts of a term last.
-pub(crate) fn push_parts(
-    cps: &Cps,
-    first: usize,
-    term: &Term,
-    parts: &mut Vec<u32>,
-) -> Result<(), Memory>
+/// Puts the places of the parts of a term last: of the bodies of its LAMBDAs, and of the terms that it names. The only error is the want of
+/// memory.
+pub fn push_parts(cps: &Cps, first: usize, term: &Term, parts: &mut Vec<u32>) -> Result<(), Memory>
     requires { first ≡ first_lams cps.now }
     ensures { OnOk result (parts.new.items ≡ parts.old.items ++ part_places cps.now term.now) }
 {
@@ -192,8 +188,8 @@ pub(crate) fn push_parts(
     Ok(())
 }
 
-/// Puts the entry and the bodies of the procedures of globals and operations last.
-pub(crate) fn push_roots(cps: &Cps, first: usize, parts: &mut Vec<u32>) -> Result<(), Memory>
+/// Puts the entry and the bodies of the procedures of globals and operations last. The only error is the want of memory.
+pub fn push_roots(cps: &Cps, first: usize, parts: &mut Vec<u32>) -> Result<(), Memory>
     requires first { first ≡ first_lams cps.now }
     requires there { first ≤ length cps.now.lams.items }
     ensures { OnOk result (parts.new.items ≡ parts.old.items ++ root_places cps.now) }

@@ -1,0 +1,4 @@
+mod Picking
+mod Making
+mod Definitions
+mod Joining

@@ -1,0 +1,9 @@
+use Rattle.t_core.specs.declared.forms.FormKind.TheVariants as Kind
+use Rattle.unit_conversion.specs.FirstLams.{has_default}
+use Rattle.unit_conversion.proofs.Picking.{first_added}
+use Rattle.unit_conversion.proofs.first_lams.add_default.Goals as goal
+
+pub returns-in_ok-push : goal.returns-in_ok-push
+returns-in_ok-push c = λ marks.
+    first_added c.args.unit.now c.args.marks.now c.args.made.now c.root.new.made (Kind.Operation c.args.o) c.in_ok-at.at (has_default c.args.info) c.in_ok-lam.lam c.args.lams.now.items c.push.new.self.items c.if-info.true c.in_ok-at.ensures
+    (c.in_ok-lam.ensures marks) c.in_ok-push.ensures.items

@@ -1,0 +1,14 @@
+use Rattle.std.proofs.Common.{◌≡◌, Some, slice_get, subst, sym, ap, ◌∙◌}
+use Rattle.std.proofs.lemmas.Option.{slice_get-get_or}
+use Rattle.t_core.specs.declared.forms.FormKind.TheVariants as Kind
+use Rattle.unit_conversion.proofs.first_lams.define_at.Goals as goal
+
+pub returns-then-h-g : goal.returns-then-h-g
+returns-then-h-g c =
+    let same : c.in-Define.h ≡ c.args.g = c.if-h-g.true in
+    record {
+      form = c.in-Some-get.form.now;
+      there = subst (λ fs. slice_get fs c.in-Some.at.now ≡ Some c.in-Some-get.form.now) c.deref.ensures.value
+          (slice_get-get_or c.deref.result.now c.in-Some.at.now c.in-Some-get.form.now c.in-Some-get.ensures.lookup.3.0 ∙ ap Some (sym c.in-Some-get.ensures.lookup.1));
+      is = c.in-Define.is ∙ ap Kind.Define same;
+    }

@@ -1,0 +1,2 @@
+pub mod FirstLams
+pub mod Parts
