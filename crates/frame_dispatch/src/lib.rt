@@ -1,0 +1,3 @@
+//! The block that makes calls of what isn't known: it looks at the header of a procedure. `specs/Codes.antt` has its code, and that of the loops to which
+//! it goes on, of the entries of builtins and of CATCHes.
+#![tactic(auto)]
