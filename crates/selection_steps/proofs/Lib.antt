@@ -1,0 +1,3 @@
+pub mod Leading
+pub mod Youngest
+pub mod Slots
