@@ -23,7 +23,6 @@ module _ (m : Setting) (s : State) (ops : List FrameOp) (last : FrameEnd) (env :
       (λ birth f live found plain sound2.
       lookup (Led m s x) (value_in f slot) s (λ v. going (Running ops last ((to.0, v) ∷ env)) (counted 1 s)) sound2
       (λ v is sound3.
-      let op : FrameOp = Op.FrameGet to slot in
       let lt : to.0 < (choice_of m).free = (fit m s (Op.FrameGet to slot) ops last env x sp).binds.0 in
       let above = sp.above in
       spot_led m s (Op.FrameGet to slot) ops last env x sp (going (Running ops last ((to.0, v) ∷ env)) (counted 1 s))
@@ -31,3 +30,13 @@ module _ (m : Setting) (s : State) (ops : List FrameOp) (last : FrameEnd) (env :
       (frame_get_performs m.words m.sizes (layout_of m) sp.runs.escapes (ways_of m sp.runs.born) sp.t s env sp.runs.core to slot birth (older_than_youngest s.live) f v sp.rest (held m s (Op.FrameGet to slot) ops last env x sp) live found is (omega (arith, lt, above)))
       (λ y o. goes_on m s (Op.FrameGet to slot) ops last env x sp s sp.runs.escapes sp.runs.born ((to.0, v) ∷ env) (s.moves + 1) y (below_more (choice_of m).free env to.0 v lt (below m s (Op.FrameGet to slot) ops last env x sp)) sp.keeps o)
       (omega arith)))
+
+  pub pop_led : Spot m s Op.Pop ops last env x → IsSound (acted m s Op.Pop ops last env) → IsLed m s Op.Pop ops last env x
+  pop_led sp sound =
+      with_pushed (Led m s x) s (λ birth f. going (Running ops last env) (counted 1 (with_live s (older_than_youngest s.live)))) sound
+      (λ birth f live found plain sound2.
+      spot_led m s Op.Pop ops last env x sp (going (Running ops last env) (counted 1 (with_live s (older_than_youngest s.live))))
+      (GoesOn m.words m.sizes (layout_of m) sp.runs.escapes (ways_of m sp.runs.born) sp.t (with_live s (older_than_youngest s.live)) env sp.rest) 4
+      (pop_performs m.words m.sizes (layout_of m) sp.runs.escapes (ways_of m sp.runs.born) sp.t s env sp.runs.core birth (older_than_youngest s.live) f sp.rest (held m s Op.Pop ops last env x sp) live found plain)
+      (λ y o. goes_on m s Op.Pop ops last env x sp (with_live s (older_than_youngest s.live)) sp.runs.escapes sp.runs.born env (s.moves + 1) y (below m s Op.Pop ops last env x sp) sp.keeps o)
+      (omega arith))
