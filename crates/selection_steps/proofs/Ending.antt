@@ -11,6 +11,7 @@ use Rattle.frame_words.specs.Layouts.{Layout}
 use Rattle.frame_words.specs.Contents.{Escapes}
 use Rattle.frame_words.specs.Holding.{HoldsData}
 use Rattle.select_rows.specs.Kept.{IsOutOfHeap}
+use Rattle.prim_holds.specs.Laws.{IsOutOfRoom}
 use Rattle.frame_ends.specs.Laws.{EndsWith}
 use Rattle.selection_steps.specs.Settings.{Setting, layout_of}
 use Rattle.selection_steps.specs.Related.{HasEnded, Keeps, Stands}
@@ -57,9 +58,9 @@ module _ (m : Setting) where
   pub taken_words : (n k : ℕ) → n ≡ HEAP_START + 4 * k → (n - HEAP_START) / 4 ≤ k
   taken_words n k is = omega (arith, is)
 
-  full_by : (s u : State) (y : Stamped) (c core : Core) (asked left block place moves steps : ℕ) → y ≡ ended core block place moves steps (Some (Full false asked left)) → left < asked → m.sizes.heap + asked ≤ left + 4 * u.store.heap
+  full_by : (s u : State) (y : Stamped) (core : Core) (asked left block place moves steps : ℕ) → y ≡ ended core block place moves steps (Some (Full false asked left)) → left < asked → m.sizes.heap + asked ≤ left + 4 * u.store.heap
       → core.output ≡ s.store.output → core.next ≡ HEAP_START + 4 * s.store.heap → NoRoom m s u y
-  full_by s u y c core asked left block place moves steps there lacking enough output next = record {
+  full_by s u y core asked left block place moves steps there lacking enough output next = record {
     stack = false;
     asked = asked;
     left = left;
@@ -70,9 +71,16 @@ module _ (m : Setting) where
     heap = taken_words y.state.next s.store.heap (ap (λ z. z.state.next) there ∙ next);
   }
 
-  pub no_heap : (s u : State) (y : Stamped) (e : Escapes) (t : ℕ) (c : Core) → HoldsData m.sizes (layout_of m) e s c.storage c.next c.output → IsOutOfHeap m.sizes (layout_of m) e t s u c y → NoRoom m s u y
-  no_heap s u y e t c h o =
+  -- in front of a state that has as much of the heap as a second one
+  pub no_heap : (s u w : State) (y : Stamped) (e : Escapes) (t : ℕ) (c : Core) → HoldsData m.sizes (layout_of m) e s c.storage c.next c.output → w.store.heap ≡ u.store.heap → IsOutOfHeap m.sizes (layout_of m) e t s u c y → NoRoom m s w y
+  no_heap s u w y e t c h same o =
       let next = h.next_is in
       let room = h.room in
       let more = o.more in
-      full_by s u y c o.ends.core o.asked (heap_left m.sizes c) o.ends.block o.ends.place o.ends.moves o.ends.steps o.ends.there o.lacking (omega (arith, next, room, more)) o.ends.keeps.data_held.output_is o.ends.keeps.data_held.next_is
+      full_by s w y o.ends.core o.asked (heap_left m.sizes c) o.ends.block o.ends.place o.ends.moves o.ends.steps o.ends.there o.lacking (omega (arith, next, room, more, same)) o.ends.keeps.data_held.output_is o.ends.keeps.data_held.next_is
+
+  pub no_room : (s u w : State) (y : Stamped) (e : Escapes) → w.store.heap ≡ u.store.heap → IsOutOfRoom m.sizes (layout_of m) e s u y → NoRoom m s w y
+  no_room s u w y e same o =
+      let room = o.room in
+      let more = o.more in
+      full_by s w y o.core o.asked o.left o.block o.place o.moves o.steps o.there o.lacking (omega (arith, room, more, same)) o.data_held.output_is o.data_held.next_is

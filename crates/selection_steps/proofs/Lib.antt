@@ -5,3 +5,7 @@ pub mod Slots
 pub mod Captured
 pub mod Cells
 pub mod Globals
+pub mod Costs
+pub mod Keeping
+pub mod Things
+pub mod Prims
