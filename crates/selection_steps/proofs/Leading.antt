@@ -12,6 +12,7 @@ use Rattle.frame_ir.specs.declared.forms.FrameEnd.{FrameEnd}
 use Rattle.frame_ir.specs.Values.{Value, Env, value_at}
 use Rattle.frame_ir.specs.States.{Doing, Running, Ended, State, going, counted, or_wrong}
 use Rattle.frame_ir.specs.Operations.{act}
+use Rattle.frame_ir.specs.Sizes.{FramesAreSmall}
 use Rattle.word_trees.specs.Trees.{Tree, Spells}
 use Rattle.word_trees.specs.Cores.{Core, at, ended}
 use Rattle.word_trees.specs.Leads.{Leads, Performs}
@@ -83,6 +84,7 @@ module _ (m : Setting) where
     pub runs : Runs m s (op ∷ ops) last env x
     pub keeps : Keeps m s
     pub none : saved s.doing ≡ 0
+    pub small : FramesAreSmall m.p.shared.size s
     pub t : ℕ
     pub above : free ≤ t
     pub rest : Tree

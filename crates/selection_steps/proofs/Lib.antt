@@ -9,3 +9,4 @@ pub mod Costs
 pub mod Keeping
 pub mod Things
 pub mod Prims
+pub mod Pushes
