@@ -10,3 +10,5 @@ pub mod Keeping
 pub mod Things
 pub mod Prims
 pub mod Pushes
+pub mod Groups
+pub mod Closures
