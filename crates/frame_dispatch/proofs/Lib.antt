@@ -1,1 +1,2 @@
+pub mod Then
 pub mod Headers
