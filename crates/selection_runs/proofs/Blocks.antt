@@ -14,10 +14,9 @@ use Rattle.frame_ir.specs.declared.forms.FrameEnd.{FrameEnd}
 use Rattle.frame_ir.specs.declared.forms.FrameEnd.TheVariants as Last
 use Rattle.frame_ir.specs.declared.forms.Block.{Block}
 use Rattle.frame_ir.specs.declared.forms.Frames.{Frames}
-use Rattle.frame_ir.specs.Parts.{op_args, op_binds, block_binds, block_args, codes_of, arg_codes}
+use Rattle.frame_ir.specs.Parts.{op_args, op_binds, block_binds, block_args, codes_of, arg_codes, targets_of}
 use Rattle.frame_ir.specs.Sizes.{AreSmall}
-use Rattle.frame_ir.specs.Whole.{IsArg, OpNamesAreThere, BlockNamesAreThere, IsShapedOp, IsShapedEnd}
-use Rattle.frame_ir.specs.Whole as whole
+use Rattle.frame_ir.specs.Whole.{IsBlock, IsArg, OpNamesAreThere, BlockNamesAreThere, IsShapedOp, IsShapedEnd}
 use Rattle.frame_ir.proofs.KindTexts.{contains_flat}
 use Rattle.frame_stacks.specs.Laws.{AreParameters}
 use Rattle.prim_holds.specs.Operands.{IsNamed}
@@ -111,12 +110,12 @@ module _ (m : Setting) where
         plain = both.0;
       }, fits_of ops named.1 (each_right (λ x. x.0 < free) (op_binds op) (flat_map op_binds ops) binds) small.1 shaped.1 places.1 (each_right (IsClosureCode m.p) (codes_of op) (flat_map codes_of ops) codes) both.1)
 
-  end_shape : (end : FrameEnd) → IsShapedEnd m.p end → settings.IsShapedEnd end
-  end_shape (Last.Call f args) shaped = shaped
-  end_shape (Last.Jump block args) shaped = tt
-  end_shape (Last.If test first second) shaped = tt
-  end_shape (Last.Return value) shaped = tt
-  end_shape (Last.Halt value) shaped = tt
+  end_shape : (end : FrameEnd) → IsShapedEnd m.p end → AllByRecursion (IsBlock m.p) (targets_of end) → settings.IsShapedEnd m end
+  end_shape (Last.Call f args) shaped targets = shaped
+  end_shape (Last.Jump block args) shaped targets = tt
+  end_shape (Last.If test first second) shaped targets = (targets.0, targets.1.0)
+  end_shape (Last.Return value) shaped targets = tt
+  end_shape (Last.Halt value) shaped targets = tt
 
   plain_at : (blocks : List Block) (k : ℕ) (b : Block) → list_all (λ x. list_all is_plain x.ops.items) blocks ≡ true → slice_get blocks k ≡ Some b → list_all is_plain b.ops.items ≡ true
   plain_at [] k b all at = absurd (cc)
@@ -148,6 +147,6 @@ module _ (m : Setting) where
             (each_of_all (λ op. OpNamesAreThere m.p op × All (IsArg m.p) (op_args op)) b.ops.items places.0)
             codes
             (plain_at m.p.blocks.items k b m.plain at);
-        fits_end = record { args = named.1; shaped = end_shape b.last (all_at (λ c. IsShapedEnd m.p c.last) m.p.blocks.items k b m.whole.shapes.ends at) };
+        fits_end = record { args = named.1; shaped = end_shape b.last (all_at (λ c. IsShapedEnd m.p c.last) m.p.blocks.items k b m.whole.shapes.ends at) (each_of_all (IsBlock m.p) (targets_of b.last) places.1.0) };
         params = parameters_of free b.params (each_left (λ x. x.0 < free) b.params (flat_map op_binds b.ops.items) binds) (params_distinct m.p.blocks.items k b m.whole.scopes.bound_once at);
       }

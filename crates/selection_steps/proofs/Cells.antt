@@ -41,7 +41,7 @@ lasting_is (Lasting x) v is = ap Lasting (cc)
 lasting_is (InFrame birth slot) v is = absurd (cc)
 lasting_is (CellAt k) v is = absurd (cc)
 
-lasting_by : (o : Option Value) (v : Val) → option_and_then lasting_of o ≡ Some v → o ≡ Some (Lasting v)
+pub lasting_by : (o : Option Value) (v : Val) → option_and_then lasting_of o ≡ Some v → o ≡ Some (Lasting v)
 lasting_by (Some w) v is = ap Some (lasting_is w v is)
 lasting_by None v is = absurd (cc)
 

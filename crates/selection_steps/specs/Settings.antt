@@ -93,10 +93,11 @@ abbrev pub AreFit : Setting → List FrameOp → Type 0
 AreFit m [] = Unit {0}
 AreFit m (op ∷ ops) = IsFit m ops op × AreFit m ops
 
-abbrev pub IsShapedEnd : FrameEnd → Type 0
-IsShapedEnd (Last.Call f args) = length args ≤ most_operands
-IsShapedEnd _ = Unit {0}
+abbrev pub IsShapedEnd : Setting → FrameEnd → Type 0
+IsShapedEnd m (Last.Call f args) = length args ≤ most_operands
+IsShapedEnd m (Last.If test first second) = (first < length m.p.blocks.items) × (second < length m.p.blocks.items)
+IsShapedEnd m _ = Unit {0}
 
 pub record IsFitEnd (m : Setting) (end : FrameEnd) : Type 0 where
   pub args : AllByRecursion (IsNamed (layout_of m) m.p.shared) (end_args end)
-  pub shaped : IsShapedEnd end
+  pub shaped : IsShapedEnd m end
