@@ -1,12 +1,15 @@
 -- What is known of each block of a whole program.
 use Rattle.std.proofs.Common.{◌≡◌, ◌≢◌, ℕ, zero, suc, ◌+◌, ◌<◌, ◌≤◌, ◌⊎◌, ◌&&◌, inl, inr, Bool, true, false, List, [], ◌∷◌, ◌++◌, length, get_or, Some, slice_get, refl, sym, ap, ◌∙◌, subst, arith, length-append}
-use Rattle.std.specs.Prelude.{All, AllPairs, Contains}
+use Rattle.std.specs.Prelude.{All, AllPairs, Contains, count_by, cond, if◌then◌else◌, None, Option}
 use Rattle.std.specs.List.{AllByRecursion, list_all, flat_map}
 use Rattle.std.proofs.lemmas.Bool.{and_parts}
+use Rattle.std.proofs.lemmas.List.Sums.{sum_by-cons}
 use Rattle.std.proofs.lemmas.List.{get_or_append_left, get_or-append-add}
 use Rattle.std.proofs.lemmas.List.Elements.{All-contains_itself, All-contains, Contains-append_left, Contains-append_right}
 use Rattle.t_base.specs.declared.basics.Var.{Var}
 use Rattle.t_prim.proofs.RowParts.{all_at}
+use Rattle.cps_ir.specs.declared.args.Arg.{Arg}
+use Rattle.cps_ir.specs.declared.args.Arg.TheVariants as Argument
 use Rattle.cps_ir.proofs.ProperLists.{each_of_all}
 use Rattle.frame_ir.specs.declared.forms.FrameOp.{FrameOp}
 use Rattle.frame_ir.specs.declared.forms.FrameOp.TheVariants as Op
@@ -14,14 +17,15 @@ use Rattle.frame_ir.specs.declared.forms.FrameEnd.{FrameEnd}
 use Rattle.frame_ir.specs.declared.forms.FrameEnd.TheVariants as Last
 use Rattle.frame_ir.specs.declared.forms.Block.{Block}
 use Rattle.frame_ir.specs.declared.forms.Frames.{Frames}
-use Rattle.frame_ir.specs.Parts.{op_args, op_binds, block_binds, block_args, codes_of, arg_codes, targets_of}
+use Rattle.frame_ir.specs.Arguments.{is_proc, number_among, proc_count}
+use Rattle.frame_ir.specs.Parts.{op_args, end_args, op_binds, block_binds, block_args, codes_of, arg_codes, targets_of}
 use Rattle.frame_ir.specs.Sizes.{AreSmall}
 use Rattle.frame_ir.specs.Whole.{IsBlock, IsArg, OpNamesAreThere, BlockNamesAreThere, IsShapedOp, IsShapedEnd}
 use Rattle.frame_ir.proofs.KindTexts.{contains_flat}
 use Rattle.frame_stacks.specs.Laws.{AreParameters}
 use Rattle.prim_holds.specs.Operands.{IsNamed}
 use Rattle.word_selection.specs.Selections.{IsOpNamed, IsBlockNamed, IsClosureCode}
-use Rattle.selection_steps.specs.Settings.{Setting, choice_of, layout_of, is_plain, IsShaped, IsFit, AreFit, IsFitEnd}
+use Rattle.selection_steps.specs.Settings.{Setting, choice_of, layout_of, called_code, is_plain, IsShaped, IsFit, AreFit, IsFitEnd}
 use Rattle.selection_steps.specs.Settings as settings
 
 -- ---- lists
@@ -110,12 +114,40 @@ module _ (m : Setting) where
         plain = both.0;
       }, fits_of ops named.1 (each_right (λ x. x.0 < free) (op_binds op) (flat_map op_binds ops) binds) small.1 shaped.1 places.1 (each_right (IsClosureCode m.p) (codes_of op) (flat_map codes_of ops) codes) both.1)
 
-  end_shape : (end : FrameEnd) → IsShapedEnd m.p end → AllByRecursion (IsBlock m.p) (targets_of end) → settings.IsShapedEnd m end
-  end_shape (Last.Call f args) shaped targets = shaped
-  end_shape (Last.Jump block args) shaped targets = tt
-  end_shape (Last.If test first second) shaped targets = (targets.0, targets.1.0)
-  end_shape (Last.Return value) shaped targets = tt
-  end_shape (Last.Halt value) shaped targets = tt
+  -- the codes of globals that are procedures come first
+  among_by : {X : Type 0} (test : X → Bool) (n : ℕ) (b : Bool) (count c : ℕ) → (if b then Some n else None) ≡ Some c → c < n + (cond b 1 0 + count)
+  among_by test n true count c is = let same : n ≡ c = cc in omega (arith, same)
+  among_by test n false count c is = absurd (cc)
+
+  rest_by : (n c count : ℕ) (b : Bool) → c < (if b then suc n else n) + count → c < n + (cond b 1 0 + count)
+  rest_by n c count true lt = omega (arith, lt)
+  rest_by n c count false lt = omega (arith, lt)
+
+  among_below : {X : Type 0} (test : X → Bool) (xs : List X) (n k c : ℕ) → number_among test n xs k ≡ Some c → c < n + count_by test xs
+  among_below test [] n k c is = absurd (cc)
+  among_below test (x ∷ xs) n zero c is = let e = sum_by-cons (λ z. cond (test z) 1 0) x xs in let lt = among_by test n (test x) (count_by test xs) c is in omega (arith, e, lt)
+  among_below test (x ∷ xs) n (suc k) c is =
+      let lt = rest_by n c (count_by test xs) (test x) (among_below test xs (if test x then suc n else n) k c is) in
+      let e = sum_by-cons (λ z. cond (test z) 1 0) x xs in
+      omega (arith, lt, e)
+
+  code_there : (f : Arg) (code : ℕ) → IsArg m.p f → called_code m f ≡ Some code → code < length m.p.blocks.items
+  code_there (Argument.Proc block) code there is = let same : block ≡ code = cc in subst (λ k. k < length m.p.blocks.items) same there
+  code_there (Argument.Global g) code there is =
+      let lt = among_below (λ info. is_proc info.kind) m.p.shared.globals.items 0 g code is in
+      let first = m.whole.places.first_codes in
+      omega (arith, lt, first)
+  code_there (Argument.Const k) code there is = absurd (cc)
+  code_there (Argument.Var x) code there is = absurd (cc)
+  code_there (Argument.Builtin b) code there is = absurd (cc)
+  code_there (Argument.Op o) code there is = absurd (cc)
+
+  end_shape : (end : FrameEnd) → IsShapedEnd m.p end → AllByRecursion (IsArg m.p) (end_args end) → AllByRecursion (IsBlock m.p) (targets_of end) → settings.IsShapedEnd m end
+  end_shape (Last.Call f args) shaped there targets = (shaped, λ code is. code_there f code there.0 is)
+  end_shape (Last.Jump block args) shaped there targets = tt
+  end_shape (Last.If test first second) shaped there targets = (targets.0, targets.1.0)
+  end_shape (Last.Return value) shaped there targets = tt
+  end_shape (Last.Halt value) shaped there targets = tt
 
   plain_at : (blocks : List Block) (k : ℕ) (b : Block) → list_all (λ x. list_all is_plain x.ops.items) blocks ≡ true → slice_get blocks k ≡ Some b → list_all is_plain b.ops.items ≡ true
   plain_at [] k b all at = absurd (cc)
@@ -147,6 +179,6 @@ module _ (m : Setting) where
             (each_of_all (λ op. OpNamesAreThere m.p op × All (IsArg m.p) (op_args op)) b.ops.items places.0)
             codes
             (plain_at m.p.blocks.items k b m.plain at);
-        fits_end = record { args = named.1; shaped = end_shape b.last (all_at (λ c. IsShapedEnd m.p c.last) m.p.blocks.items k b m.whole.shapes.ends at) (each_of_all (IsBlock m.p) (targets_of b.last) places.1.0) };
+        fits_end = record { args = named.1; shaped = end_shape b.last (all_at (λ c. IsShapedEnd m.p c.last) m.p.blocks.items k b m.whole.shapes.ends at) (each_of_all (IsArg m.p) (end_args b.last) places.1.1) (each_of_all (IsBlock m.p) (targets_of b.last) places.1.0) };
         params = parameters_of free b.params (each_left (λ x. x.0 < free) b.params (flat_map op_binds b.ops.items) binds) (params_distinct m.p.blocks.items k b m.whole.scopes.bound_once at);
       }

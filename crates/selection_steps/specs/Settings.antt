@@ -1,10 +1,12 @@
 -- What is given where a program of words goes with a program with frames, and what is known of the rest of a block.
-use Rattle.std.specs.Prelude.{◌≡◌, ℕ, ◌+◌, ◌*◌, ◌%◌, ◌^◌, ◌<◌, ◌≤◌, Bool, true, false, List, [], ◌∷◌, length, All, Option, None, slice_get, IsSomeAnd}
+use Rattle.std.specs.Prelude.{◌≡◌, ℕ, ◌+◌, ◌*◌, ◌%◌, ◌^◌, ◌<◌, ◌≤◌, Bool, true, false, List, [], ◌∷◌, length, All, Option, Some, None, slice_get, IsSomeAnd}
 use Rattle.std.specs.List.{AllByRecursion, list_all}
 use Rattle.program_runs.specs.Follows.{after}
 use Rattle.program_runs.specs.Keeps.{Room}
 use Rattle.t_base.specs.declared.basics.Var.{Var}
 use Rattle.t_prim.specs.Table.{arity_of}
+use Rattle.cps_ir.specs.declared.args.Arg.{Arg}
+use Rattle.cps_ir.specs.declared.args.Arg.TheVariants as Argument
 use Rattle.word_ir.specs.declared.words.Words.{Words}
 use Rattle.word_ir.specs.Storage.{Sizes}
 use Rattle.frame_ir.specs.declared.forms.Place.TheVariants as At
@@ -13,6 +15,7 @@ use Rattle.frame_ir.specs.declared.forms.FrameOp.TheVariants as Op
 use Rattle.frame_ir.specs.declared.forms.FrameEnd.{FrameEnd}
 use Rattle.frame_ir.specs.declared.forms.FrameEnd.TheVariants as Last
 use Rattle.frame_ir.specs.declared.forms.Frames.{Frames}
+use Rattle.frame_ir.specs.Arguments.{code_of_global}
 use Rattle.frame_ir.specs.Parts.{op_args, end_args, op_binds}
 use Rattle.frame_ir.specs.Sizes.{HasSmallFrames, IsSmallOp, most_frame_words}
 use Rattle.frame_ir.specs.States.{Doing, Running, Calling, Looking, Entering, Ended, Stale, Wrong, State}
@@ -93,8 +96,14 @@ abbrev pub AreFit : Setting → List FrameOp → Type 0
 AreFit m [] = Unit {0}
 AreFit m (op ∷ ops) = IsFit m ops op × AreFit m ops
 
+-- the code of what is called, where that is known
+abbrev pub called_code : Setting → Arg → Option ℕ
+called_code m (Argument.Proc block) = Some block
+called_code m (Argument.Global g) = code_of_global m.p.shared g
+called_code m _ = None
+
 abbrev pub IsShapedEnd : Setting → FrameEnd → Type 0
-IsShapedEnd m (Last.Call f args) = length args ≤ most_operands
+IsShapedEnd m (Last.Call f args) = (length args ≤ most_operands) × ((code : ℕ) → called_code m f ≡ Some code → code < length m.p.blocks.items)
 IsShapedEnd m (Last.If test first second) = (first < length m.p.blocks.items) × (second < length m.p.blocks.items)
 IsShapedEnd m _ = Unit {0}
 
