@@ -2,3 +2,4 @@ pub mod Data
 pub mod Frames
 pub mod Left
 pub mod Closing
+pub mod Killing
