@@ -1,10 +1,8 @@
 -- Escapes end, from the innermost one up to the one that is called.
-use Rattle.std.proofs.Common.{◌≡◌, ℕ, suc, ◌+◌, ◌-◌, ◌*◌, ◌/◌, ◌%◌, ◌^◌, ◌<◌, ◌≤◌, ◌==◌, ◌⊎◌, ◌||◌, inl, inr, Bool, true, false, if◌then◌else◌, List, [], ◌∷◌, length, map, drop, slice_get, slice_set, Option, Some, None, is_some, pos, refl, sym, ap, ◌∙◌, subst, arith}
-use Rattle.std.specs.List.{AllByRecursion, list_any}
+use Rattle.std.proofs.Common.{◌≡◌, ℕ, ◌+◌, ◌-◌, ◌*◌, ◌/◌, ◌%◌, ◌^◌, ◌<◌, ◌≤◌, ◌==◌, ◌||◌, inl, inr, Bool, true, false, if◌then◌else◌, List, [], ◌∷◌, length, map, slice_get, slice_set, Option, Some, None, is_some, pos, refl, sym, ap, ◌∙◌, subst, arith}
 use Rattle.std.specs.Option.{option_map_or}
 use Rattle.std.proofs.lemmas.Bool.{eq-eqb, ne_eqb, eqb-true, eqb-false, lt-ltb, le-ltb}
 use Rattle.t_prim.specs.Values.{Val, EscapeV}
-use Rattle.word_ir.specs.declared.operands.Operand.{Operand}
 use Rattle.word_ir.specs.declared.operands.Operand.TheVariants as operand
 use Rattle.word_ir.specs.declared.words.Test.TheVariants as test
 use Rattle.word_ir.specs.declared.words.WordBlock.{WordBlock}
@@ -12,21 +10,21 @@ use Rattle.word_ir.specs.declared.words.WordOp.TheVariants as op
 use Rattle.word_ir.specs.declared.words.WordEnd.TheVariants as last
 use Rattle.word_ir.specs.declared.words.Words.{Words}
 use Rattle.word_ir.specs.Word.{Word, Number, Code, moved}
-use Rattle.word_ir.specs.Storage.{Sizes, Regions, STATICS_START, HEAP_START, STACK_START, static_at, long_at}
+use Rattle.word_ir.specs.Storage.{Sizes, Regions, STATICS_START, HEAP_START, STACK_START, long_at}
 use Rattle.word_ir.specs.State.{Own, kept}
 use Rattle.word_ir.specs.State as word_state
 use Rattle.word_ir.specs.Step.{words_in}
-use Rattle.word_ir.specs.Stamps.{Stamp, Stamped, is_birth, birth_at}
-use Rattle.frame_ir.specs.Values.{Value, Lasting, Frame, Env, frame_words}
+use Rattle.word_ir.specs.Stamps.{Stamp, Stamped, birth_at}
+use Rattle.frame_ir.specs.Values.{Lasting, Frame, frame_words}
 use Rattle.frame_ir.specs.States.{State, AnEscape, is_live, older_than, with_live, thing_words}
 use Rattle.frame_ir.specs.Arguments.{bound}
-use Rattle.word_trees.specs.Trees.{Tree, Do, Ask, Close, Spells}
+use Rattle.word_trees.specs.Trees.{Do, Ask, Close, Spells}
 use Rattle.word_trees.specs.Cores.{Core, at, word_in, stamp_in, some_stamp, binding, resetting, entering, bound_words, bound_stamps}
 use Rattle.word_trees.specs.Leads.{Performs}
 use Rattle.word_trees.proofs.Ends.{jump_enters, enter_enters}
 use Rattle.word_trees.proofs.Operations.{reset_steps}
 use Rattle.word_trees.proofs.Performing.{performs, performs_more, enters_performs, here_leads, load_performs, pop_performs, ask_performs_true, ask_performs_false}
-use Rattle.frame_words.specs.Layouts.{Layout, INNER}
+use Rattle.frame_words.specs.Layouts.{Layout}
 use Rattle.frame_words.specs.ValueWords.{same_thing, heap_place, word_for, val_word}
 use Rattle.frame_words.specs.Contents.{Escapes}
 use Rattle.frame_words.specs.Holding.{HoldsData}
@@ -38,7 +36,7 @@ use Rattle.select_rows.specs.Macros.{var, of_var}
 use Rattle.select_rows.proofs.Keeping.{may_read, older_kept, newest_kept, get_set, get_set_other}
 use Rattle.frame_stacks.specs.Stacks.{Ways, stack_of, words_of_frames, frames_place, stack_address, live_from, frame_at}
 use Rattle.frame_stacks.specs.Frames.{HoldsAll, HoldsFrames, HoldsEscapes, Holds, is_catch, inner_word}
-use Rattle.frame_stacks.specs.Laws.{HasValue, HaveValues, AreParameters, Begins}
+use Rattle.frame_stacks.specs.Laws.{HasValue, AreParameters, Begins}
 use Rattle.frame_stacks.proofs.Blocks.{entering_held, stored_word_performs}
 use Rattle.frame_stacks.proofs.Gets.{IsYoungest, youngest_held}
 use Rattle.frame_stacks.proofs.Pops.{above, data_of_older, older_born}
@@ -51,7 +49,7 @@ use Rattle.frame_escapes.specs.Ended.{kept_escapes, ended_catches}
 use Rattle.frame_escapes.proofs.Data.{AgreeOnMade, data_alike, without, inside}
 use Rattle.frame_escapes.proofs.Frames.{among, among_lower, AreLast, older_last, FramesLeft, older_left, one_popped}
 use Rattle.frame_escapes.proofs.Left.{escapes_left}
-use Rattle.frame_escapes.proofs.Closing.{escape_word, with_heap_of, dead, dead_data, ends_escape, stores_inner}
+use Rattle.frame_escapes.proofs.Closing.{escape_word, dead_data, ends_escape, stores_inner}
 
 some_place : (o : Option ℕ) → is_some o ≡ true → (p : ℕ) × (o ≡ Some p)
 some_place (Some p) h = (p, refl)

@@ -3,3 +3,4 @@ pub mod Frames
 pub mod Left
 pub mod Closing
 pub mod Killing
+pub mod Calling
