@@ -1,5 +1,5 @@
 //! Whether the parts of a program stand apart: each term stands behind those that it names, each term and each procedure is named exactly
-//! once, and no variable is bound twice (`specs/Order.antt`). Such a program takes no more checks for what it assigns.
+//! once, and no variable is bound twice (`specs/Order.antt`); and whether it assigns the variables that it should.
 #![tactic(auto)]
 
 mod assigned;
