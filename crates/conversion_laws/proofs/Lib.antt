@@ -1,1 +1,3 @@
 pub mod Visits
+pub mod Roots
+pub mod Plain

@@ -37,28 +37,28 @@ module _ (x : Translation) (A : Arg → Type 0) (P : Term → Type 0) (R : Lam �
 
   -- what holds of the terms that are made, by the kind of node
   pub record Table : Type 0 where
-    ready : (form key : ℕ) (a : Arg) → ready_at x form key ≡ Some a → A a
-    var : (v : Var) → A (Argument.Var v)
-    proc : (l : ℕ) → A (Argument.Proc l)
-    nil : A (Argument.Const Constant.Nil)
-    global_name : (g : ℕ) (a : Arg) → name_of_global x.cps.shared g ≡ Some a → A a
-    op_name : (o : ℕ) (a : Arg) → name_of_op x.cps.shared o ≡ Some a → A a
-    give : (k : Cont) (a : Arg) → A a → P (Step.Give k a)
-    get : (form key g : ℕ) (k : Cont) → node_at x.unit form key ≡ Some (Node.Global g) → is_proc x.unit g ≡ false → P (Step.GlobalGet g k)
-    tests : (a : Arg) (first second : ℕ) → A a → P (Step.If a first second)
-    join : (j v : Var) (body rest : ℕ) → P (Step.Join j v body rest)
-    labels : (vars : List Var) (lams : List ℕ) (body : ℕ) → length vars ≡ length lams → P (Step.Labels vars lams body)
-    set : (v : Var) (a : Arg) (k : Cont) → is_assigned x.unit v ≡ true → A a → P (Step.Set v a k)
-    set_local : (form key value : ℕ) (v : Var) (a : Arg) (k : Cont) → node_at x.unit form key ≡ Some (Node.SetLocal v value) → A a → P (Step.Set v a k)
-    set_global : (form key value g : ℕ) (a : Arg) (k : Cont) → node_at x.unit form key ≡ Some (Node.SetGlobal g value) → is_proc x.unit g ≡ false → A a → P (Step.GlobalSet g a k)
-    catches : (form key body : ℕ) (v name : Var) (inner : ℕ) (k : Cont) → node_at x.unit form key ≡ Some (Node.Catch v body) → P (Step.Catch name inner k)
-    uncatch : (form key body : ℕ) (v : Var) (a : Arg) (k : Cont) → node_at x.unit form key ≡ Some (Node.Catch v body) → A a → P (Step.Uncatch k a)
-    object : (form key proc : ℕ) (methods : List Method) (a : Arg) (ops lams : List ℕ) (k : Cont) → node_at x.unit form key ≡ Some (Node.Object proc methods) → MethodLams methods ops lams → A a → P (Step.Object a ops lams k)
-    call : (form key operator : ℕ) (operands : List ℕ) (tail : Bool) (f : Arg) (args : List Arg) (k : Cont) → node_at x.unit form key ≡ Some (Node.Call operator operands tail) → length args ≡ length operands → AllByRecursion A (f ∷ args) → P (Step.Call f args k)
-    prim : (form key : ℕ) (b : Builtin) (operands : List ℕ) (args : List Arg) (k : Cont) → node_at x.unit form key ≡ Some (Node.Prim b operands) → length args ≡ length operands → AllByRecursion A args → P (Step.Prim b args k)
-    halt : (a : Arg) → A a → P (Step.Halt a)
-    lambda : (form key body : ℕ) (params : List Var) (lam : Lam) → node_at x.unit form key ≡ Some (Node.Lambda params body) → length lam.params ≡ length params → R lam
-    method : (form key proc : ℕ) (methods : List Method) (m : Method) (i : ℕ) (lam : Lam) → node_at x.unit form key ≡ Some (Node.Object proc methods) → slice_get methods i ≡ Some m → length lam.params ≡ length m.params → R lam
+    pub ready : (form key : ℕ) (a : Arg) → ready_at x form key ≡ Some a → A a
+    pub var : (v : Var) → A (Argument.Var v)
+    pub proc : (l : ℕ) → A (Argument.Proc l)
+    pub nil : A (Argument.Const Constant.Nil)
+    pub global_name : (g : ℕ) (a : Arg) → name_of_global x.cps.shared g ≡ Some a → A a
+    pub op_name : (o : ℕ) (a : Arg) → name_of_op x.cps.shared o ≡ Some a → A a
+    pub give : (k : Cont) (a : Arg) → A a → P (Step.Give k a)
+    pub get : (form key g : ℕ) (k : Cont) → node_at x.unit form key ≡ Some (Node.Global g) → is_proc x.unit g ≡ false → P (Step.GlobalGet g k)
+    pub tests : (a : Arg) (first second : ℕ) → A a → P (Step.If a first second)
+    pub join : (j v : Var) (body rest : ℕ) → P (Step.Join j v body rest)
+    pub labels : (vars : List Var) (lams : List ℕ) (body : ℕ) → length vars ≡ length lams → P (Step.Labels vars lams body)
+    pub set : (v : Var) (a : Arg) (k : Cont) → is_assigned x.unit v ≡ true → A a → P (Step.Set v a k)
+    pub set_local : (form key value : ℕ) (v : Var) (a : Arg) (k : Cont) → node_at x.unit form key ≡ Some (Node.SetLocal v value) → A a → P (Step.Set v a k)
+    pub set_global : (form key value g : ℕ) (a : Arg) (k : Cont) → node_at x.unit form key ≡ Some (Node.SetGlobal g value) → is_proc x.unit g ≡ false → A a → P (Step.GlobalSet g a k)
+    pub catches : (form key body : ℕ) (v name : Var) (inner : ℕ) (k : Cont) → node_at x.unit form key ≡ Some (Node.Catch v body) → P (Step.Catch name inner k)
+    pub uncatch : (form key body : ℕ) (v : Var) (a : Arg) (k : Cont) → node_at x.unit form key ≡ Some (Node.Catch v body) → A a → P (Step.Uncatch k a)
+    pub object : (form key proc : ℕ) (methods : List Method) (a : Arg) (ops lams : List ℕ) (k : Cont) → node_at x.unit form key ≡ Some (Node.Object proc methods) → MethodLams methods ops lams → A a → P (Step.Object a ops lams k)
+    pub call : (form key operator : ℕ) (operands : List ℕ) (tail : Bool) (f : Arg) (args : List Arg) (k : Cont) → node_at x.unit form key ≡ Some (Node.Call operator operands tail) → length args ≡ length operands → AllByRecursion A (f ∷ args) → P (Step.Call f args k)
+    pub prim : (form key : ℕ) (b : Builtin) (operands : List ℕ) (args : List Arg) (k : Cont) → node_at x.unit form key ≡ Some (Node.Prim b operands) → length args ≡ length operands → AllByRecursion A args → P (Step.Prim b args k)
+    pub halt : (a : Arg) → A a → P (Step.Halt a)
+    pub lambda : (form key body : ℕ) (params : List Var) (lam : Lam) → node_at x.unit form key ≡ Some (Node.Lambda params body) → length lam.params ≡ length params → R lam
+    pub method : (form key proc : ℕ) (methods : List Method) (m : Method) (i : ℕ) (lam : Lam) → node_at x.unit form key ≡ Some (Node.Object proc methods) → slice_get methods i ≡ Some m → length lam.params ≡ length m.params → R lam
 
   -- ---- what is reached from a place
 
@@ -238,7 +238,7 @@ module _ (x : Translation) (A : Arg → Type 0) (P : Term → Type 0) (R : Lam �
     one_good form bound held key term t f h = over_good form bound held (key ∷ []) (h.0 ∷ []) (term h.0) t (λ given e u s. f h.0 given.0 u s) h.1
 
     -- a procedure has as many parameters as it stands for, and its body is good
-    lam_good : (form : ℕ) (bound : List ℕ) (params : List Var) (body l : ℕ) → ((lam : Lam) → length lam.params ≡ length params → R lam) → LamAt x conv form bound params body l → GoodLam l
+    pub lam_good : (form : ℕ) (bound : List ℕ) (params : List Var) (body l : ℕ) → ((lam : Lam) → length lam.params ≡ length params → R lam) → LamAt x conv form bound params body l → GoodLam l
     lam_good form bound params body l f h lam e =
         subst (λ z. R z × Good z.body) (some_same h.0 lam (sym h.1 ∙ e))
         (
@@ -413,7 +413,7 @@ module _ (x : Translation) (A : Arg → Type 0) (P : Term → Type 0) (R : Lam �
 
   -- ---- all nodes
 
-  within_good : (T : Table) (n : ℕ) (form : ℕ) (bound held : List ℕ) (key : ℕ) (k : Cont) (t : ℕ) → GoodCont k → ConvertsWithin x n form bound held key k t → Good t
+  pub within_good : (T : Table) (n : ℕ) (form : ℕ) (bound held : List ℕ) (key : ℕ) (k : Cont) (t : ℕ) → GoodCont k → ConvertsWithin x n form bound held key k t → Good t
   within_good T zero form bound held key k t g h = absurd h
   within_good T (suc n) form bound held key k t g h = node_good T n (within_good T n) form bound held key k t (node_at x.unit form key) refl g h
 
@@ -447,7 +447,7 @@ module _ (x : Translation) (A : Arg → Type 0) (P : Term → Type 0) (R : Lam �
     form_good at f (Operation o) p t next a e q c h = subst Good h.0 (c (op_named T o a h.1))
     form_good at f Plain p t next a e q c h = within_good T n at [] [] f.root (Continuation.Lam h.value next) t (c (subst GoodArg (sym h.gives) (var_good T h.value))) h.root_as
 
-    forms_good : (at : ℕ) (forms : List Form) (before : Arg) (t : ℕ) → ((i : ℕ) (f : Form) → slice_get forms i ≡ Some f → slice_get x.unit.forms.items (at + i) ≡ Some f) → GoodArg before → FormsAs x (ConvertsWithin x n) at forms before t → Good t
+    pub forms_good : (at : ℕ) (forms : List Form) (before : Arg) (t : ℕ) → ((i : ℕ) (f : Form) → slice_get forms i ≡ Some f → slice_get x.unit.forms.items (at + i) ≡ Some f) → GoodArg before → FormsAs x (ConvertsWithin x n) at forms before t → Good t
     forms_good at [] before t all b h = made t (Step.Halt before) h (T.halt before b.0) (procs_good (before ∷ []) (b, tt)) tt
     forms_good at (f ∷ forms) before t all b h =
         form_good at f f.kind (lambda_of at f) t h.0 h.1 (subst (λ i. slice_get x.unit.forms.items i ≡ Some f) (omega arith) (all 0 f refl)) refl

@@ -1,2 +1,15 @@
 //! Laws of programs that stand for a unit, where what is owed beside the relation holds (`specs/Owed.antt`).
 #![tactic(auto)]
+
+ghost use Rattle.conversion_laws.specs.Plain.{PlainGivesPlain, NoCatchIsMade};
+
+/// A unit without assigned variables, globals, operations, objects and CATCH becomes terms of the kinds Call, Prim, If, Labels, Join, Give
+/// and Halt alone, and no argument is a global or an operation.
+pub fn plain_gives_plain()
+    ensures { PlainGivesPlain }
+{}
+
+/// A unit without CATCH becomes no Catch and no Uncatch.
+pub fn no_catch_is_made()
+    ensures { NoCatchIsMade }
+{}
