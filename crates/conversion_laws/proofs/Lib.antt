@@ -1,3 +1,4 @@
 pub mod Visits
 pub mod Roots
 pub mod Plain
+pub mod Widths
