@@ -2,3 +2,4 @@ pub mod Visits
 pub mod Roots
 pub mod Plain
 pub mod Widths
+pub mod Shapes
