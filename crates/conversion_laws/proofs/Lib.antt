@@ -3,3 +3,4 @@ pub mod Roots
 pub mod Plain
 pub mod Widths
 pub mod Shapes
+pub mod Shaped

@@ -67,7 +67,7 @@ gap zero l le = (l, omega arith)
 gap (suc g) zero le = absurd (omega (arith, le))
 gap (suc g) (suc l) le = let r = gap g l (omega (arith, le)) in (r.0, (let e = r.1 in omega (arith, e)))
 
-tallied : (Q : ℕ → Type 0) (xs : List ℕ) (n : ℕ) → AllByRecursion Q xs → 1 ≤ tally xs n → Q n
+pub tallied : (Q : ℕ → Type 0) (xs : List ℕ) (n : ℕ) → AllByRecursion Q xs → 1 ≤ tally xs n → Q n
 tallied Q [] n h k = absurd (omega (arith, k))
 tallied Q (x ∷ xs) n h k = by (x == n) refl k (tallied Q xs n h.1)
   where

@@ -62,7 +62,7 @@ module _ (x : Translation) (w : IsWholeUnit x.unit) (small : limit_of x.unit ≡
       by None q e = absurd (true≢false (sym e))
       by (Some info) q e = (slice_get_within x.unit.shared.globals.items g info q, ap (option_map (λ (i : Global1). i.kind)) q ∙ ap Some (proc_only info.kind e))
 
-  no_proc : (g : ℕ) → is_proc x.unit g ≡ false → IsNoProcedure x.cps.shared g
+  pub no_proc : (g : ℕ) → is_proc x.unit g ≡ false → IsNoProcedure x.cps.shared g
   no_proc g e = subst (λ (s : Shared). IsNoProcedure s g) (sym same) (λ k. by (slice_get x.unit.shared.globals.items g) e k)
     where
       kinds : (a b : GlobalKind) → Some a ≡ Some b → a ≡ b

@@ -1,0 +1,121 @@
+-- What all terms and procedures name is there, and their lists agree.
+use Rattle.std.specs.Prelude.{nat_lt, not, All, IsSomeAnd, Result, Ok}
+use Rattle.std.specs.List.{AllByRecursion, flat_map}
+use Rattle.std.specs.Option.{option_map_or, option_and_then}
+use Rattle.std.proofs.Common.{◌≡◌, ℕ, zero, suc, ◌+◌, ◌≤◌, ◌<◌, ◌==◌, Bool, true, false, if◌then◌else◌, ◌⊎◌, inl, inr, List, [], ◌∷◌, length, Option, Some, None, slice_get, get_or, refl, sym, ap, ◌∙◌, subst, arith, le_trans}
+use Rattle.std.proofs.lemmas.Bool.{true≢false, cases_lt, lt-ltb, ltb-false}
+use Rattle.std.proofs.lemmas.Option.{slice_get-get_or, slice_get_within}
+use Rattle.t_base.specs.declared.basics.Var.{Var}
+use Rattle.t_base.specs.declared.shared_parts.Global1.{Global1}
+use Rattle.t_base.specs.declared.shared_parts.Shared.{Shared}
+use Rattle.t_core.specs.declared.forms.Core.{Core}
+use Rattle.t_core.specs.declared.forms.Core.TheVariants as Node
+use Rattle.t_core.specs.declared.forms.Form.{Form}
+use Rattle.t_core.specs.declared.forms.FormKind.{FormKind}
+use Rattle.t_core.specs.declared.forms.FormKind.TheVariants.{Define, Lset, Operation, Plain}
+use Rattle.t_core.specs.declared.forms.UnitCore.{UnitCore}
+use Rattle.t_core.specs.Limits.{limit_of}
+use Rattle.t_core.specs.Whole.{IsWhole as IsWholeUnit, IsDefinition, DefinesAs, defines_global, defines_op}
+use Rattle.t_meaning.specs.Programs.{node_at}
+use Rattle.t_meaning.specs.State.{Procedure}
+use Rattle.t_meaning.specs.Operations.{procedure_of, lambda_of, default_in, default_of}
+use Rattle.t_meaning.specs.Units.{defined_by, definition_in, definitions, definitions_of, first_closures, start}
+use Rattle.cps_ir.specs.declared.args.Arg.{Arg}
+use Rattle.cps_ir.specs.declared.terms.Lam.{Lam}
+use Rattle.cps_ir.specs.declared.terms.Term.{Term}
+use Rattle.cps_ir.specs.declared.terms.Cps.{Cps}
+use Rattle.cps_ir.specs.Parts.{first_lams, lams_of}
+use Rattle.cps_ir.specs.Whole.{most_operands, IsShaped, IsArgThere, IsArgShaped, NamesAreThere, IsTermShaped}
+use Rattle.cps_ir.specs.Terms.{args_of}
+use Rattle.cps_ir.proofs.ProperLists.{some_same, none_some, all_at, each_more}
+use Rattle.cps_ir.proofs.Closed.{all_of_each}
+use Rattle.cps_conversion.specs.Conversion.{Translation, IsTranslated}
+use Rattle.cps_order.specs.Order.{one, tally, IsOrdered}
+use Rattle.cps_order.proofs.Reached.{flat_some}
+use Rattle.conversion_laws.specs.Owed.{IsOwed, named_lams}
+use Rattle.conversion_laws.specs.Shapes.{HasOuterNames, AreShaped, ConvertedIsShaped}
+use Rattle.conversion_laws.proofs.Visits.{Table, FormTable, LamIs, Full}
+use Rattle.conversion_laws.proofs.Roots.{RootTable, tallied, first_good, all_full}
+use Rattle.conversion_laws.proofs.Widths.{node_narrow}
+use Rattle.conversion_laws.proofs.Shapes.{FineArg, FineTerm, FineLam, no_proc, fine_table}
+
+-- ---- the procedure of a root is a LAMBDA
+
+-- the procedure has the parameters of a LAMBDA of the unit
+record IsOfNode (unit : UnitCore) (f : Procedure) : Type 0 where
+  form : ℕ
+  key : ℕ
+  body : ℕ
+  node : node_at unit form key ≡ Some (Node.Lambda f.params body)
+
+same_procedure : (f g : Procedure) → Some f ≡ Some g → f ≡ g
+same_procedure f g e = cc
+
+of_node : (unit : UnitCore) (at i key : ℕ) (o : Option Core) (f : Procedure) → node_at unit i key ≡ o → procedure_of at o ≡ Some f → IsOfNode unit f
+of_node unit at i key None f q e = none_some f e
+of_node unit at i key (Some (Node.Lambda params body)) f q e =
+    subst (IsOfNode unit) (same_procedure (record { params = params; form = at; body = body; env = [] }) f e) (record { form = i; key = key; body = body; node = q })
+of_node unit at i key (Some (Node.Const c)) f q e = none_some f e
+of_node unit at i key (Some (Node.Local v)) f q e = none_some f e
+of_node unit at i key (Some (Node.Global g)) f q e = none_some f e
+of_node unit at i key (Some (Node.Builtin b)) f q e = none_some f e
+of_node unit at i key (Some (Node.Op o)) f q e = none_some f e
+of_node unit at i key (Some (Node.If test first second)) f q e = none_some f e
+of_node unit at i key (Some (Node.Block items)) f q e = none_some f e
+of_node unit at i key (Some (Node.Let vars values body)) f q e = none_some f e
+of_node unit at i key (Some (Node.Labels vars lambdas body)) f q e = none_some f e
+of_node unit at i key (Some (Node.SetLocal v value)) f q e = none_some f e
+of_node unit at i key (Some (Node.SetGlobal g value)) f q e = none_some f e
+of_node unit at i key (Some (Node.Catch v body)) f q e = none_some f e
+of_node unit at i key (Some (Node.Object proc methods)) f q e = none_some f e
+of_node unit at i key (Some (Node.Call operator operands tail)) f q e = none_some f e
+of_node unit at i key (Some (Node.Prim b operands)) f q e = none_some f e
+
+module _ (unit : UnitCore) where
+  abbrev AreAt : ℕ → List Form → Type 0
+  AreAt shift forms = (i : ℕ) (g : Form) → slice_get forms i ≡ Some g → slice_get unit.forms.items (shift + i) ≡ Some g
+
+  -- the LAMBDA of a form
+  of_form : (at i : ℕ) (form : Form) (f : Procedure) → slice_get unit.forms.items i ≡ Some form → lambda_of at form ≡ Some f → IsOfNode unit f
+  of_form at i form f there e = of_node unit at i form.root (slice_get form.nodes.items form.root) f (ap (λ o. option_and_then (λ (g : Form). slice_get g.nodes.items form.root) o) there) e
+
+  first_form : (shift : ℕ) (form : Form) (forms : List Form) → AreAt shift (form ∷ forms) → slice_get unit.forms.items shift ≡ Some form
+  first_form shift form forms all = subst (λ n. slice_get unit.forms.items n ≡ Some form) (omega arith) (all 0 form refl)
+
+  later_forms : (shift : ℕ) (form : Form) (forms : List Form) → AreAt shift (form ∷ forms) → AreAt (suc shift) forms
+  later_forms shift form forms all i g e = subst (λ n. slice_get unit.forms.items n ≡ Some g) (omega arith) (all (suc i) g e)
+
+  by_kind : (kind : FormKind) (p : Option Procedure) (f : Procedure) → defined_by kind p ≡ Some f → p ≡ Some f
+  by_kind (Define g) p f e = e
+  by_kind (Lset g) p f e = none_some f e
+  by_kind (Operation o) p f e = none_some f e
+  by_kind Plain p f e = none_some f e
+
+  definition_of : (g at : ℕ) (forms : List Form) (f : Procedure) → AreAt at forms → definition_in g at forms ≡ Some f → IsOfNode unit f
+  definition_of g at [] f all e = none_some f e
+  definition_of g at (form ∷ forms) f all e = by (defines_global g form.kind) e (definition_of g (suc at) forms f (later_forms at form forms all))
+    where
+      by : (b : Bool) → (if b then defined_by form.kind (lambda_of at form) else definition_in g (suc at) forms) ≡ Some f → (definition_in g (suc at) forms ≡ Some f → IsOfNode unit f) → IsOfNode unit f
+      by true e go = of_form at at form f (first_form at form forms all) (by_kind form.kind (lambda_of at form) f e)
+      by false e go = go e
+
+  closure_of : (g : ℕ) (globals : List Global1) (i : ℕ) (f : Procedure) → slice_get (first_closures (definitions g globals unit.forms.items)) i ≡ Some f → IsOfNode unit f
+  closure_of g [] i f e = none_some f e
+  closure_of g (info ∷ globals) i f e = by (definition_in g 0 unit.forms.items) refl i e (λ j. closure_of (suc g) globals j f)
+    where
+      by : (o : Option Procedure) → definition_in g 0 unit.forms.items ≡ o → (i : ℕ) → slice_get (first_closures (o ∷ definitions (suc g) globals unit.forms.items)) i ≡ Some f
+          → ((j : ℕ) → slice_get (first_closures (definitions (suc g) globals unit.forms.items)) j ≡ Some f → IsOfNode unit f) → IsOfNode unit f
+      by None q i e go = go i e
+      by (Some p) q zero e go = definition_of g 0 unit.forms.items f (λ i h there. subst (λ n. slice_get unit.forms.items n ≡ Some h) (omega arith) there) (q ∙ e)
+      by (Some p) q (suc i) e go = go i e
+
+  default_node : (o at : ℕ) (forms : List Form) (f : Procedure) → AreAt at forms → default_in o at forms ≡ Some f → IsOfNode unit f
+  default_node o at [] f all e = none_some f e
+  default_node o at (form ∷ forms) f all e = by (defines_op o form.kind) e (default_node o (suc at) forms f (later_forms at form forms all))
+    where
+      by : (b : Bool) → (if b then lambda_of at form else default_in o (suc at) forms) ≡ Some f → (default_in o (suc at) forms ≡ Some f → IsOfNode unit f) → IsOfNode unit f
+      by true e go = of_form at at form f (first_form at form forms all) e
+      by false e go = go e
+
+  narrow_lam : limit_of unit ≡ Ok tt → (f : Procedure) (lam : Lam) → IsOfNode unit f → length lam.params ≡ length f.params → length lam.params ≤ most_operands
+  narrow_lam small f lam n e = let k = node_narrow unit small n.form n.key (Node.Lambda f.params n.body) n.node in omega (arith, k, e)
