@@ -3,7 +3,7 @@ use Rattle.std.specs.Prelude.{nat_lt, not, All, IsSomeAnd, Result, Ok}
 use Rattle.std.specs.List.{AllByRecursion, flat_map}
 use Rattle.std.specs.Option.{option_map_or, option_and_then}
 use Rattle.std.proofs.Common.{◌≡◌, ℕ, zero, suc, ◌+◌, ◌≤◌, ◌<◌, ◌==◌, Bool, true, false, if◌then◌else◌, ◌⊎◌, inl, inr, List, [], ◌∷◌, length, Option, Some, None, slice_get, get_or, refl, sym, ap, ◌∙◌, subst, arith, le_trans}
-use Rattle.std.proofs.lemmas.Bool.{true≢false, cases_lt, lt-ltb, ltb-false}
+use Rattle.std.proofs.lemmas.Bool.{cases_lt, ltb-true}
 use Rattle.std.proofs.lemmas.Option.{slice_get-get_or, slice_get_within}
 use Rattle.t_base.specs.declared.basics.Var.{Var}
 use Rattle.t_base.specs.declared.shared_parts.Global1.{Global1}
@@ -119,3 +119,75 @@ module _ (unit : UnitCore) where
 
   narrow_lam : limit_of unit ≡ Ok tt → (f : Procedure) (lam : Lam) → IsOfNode unit f → length lam.params ≡ length f.params → length lam.params ≤ most_operands
   narrow_lam small f lam n e = let k = node_narrow unit small n.form n.key (Node.Lambda f.params n.body) n.node in omega (arith, k, e)
+
+-- ---- all that is listed
+
+listed : {X : Type 0} (Q : X → Type 0) (xs : List X) → ((i : ℕ) (y : X) → slice_get xs i ≡ Some y → Q y) → All Q xs
+listed Q xs f k d lt = f k (get_or xs k d) (slice_get-get_or xs k d lt)
+
+module _ (x : Translation) (w : IsWholeUnit x.unit) (small : limit_of x.unit ≡ Ok tt) (tr : IsTranslated x) (owed : IsOwed x.cps) where
+  abbrev A : Arg → Type 0
+  A = FineArg x w small tr.shared
+
+  abbrev P : Term → Type 0
+  P = FineTerm x w small tr.shared
+
+  abbrev R : Lam → Type 0
+  R = FineLam x w small tr.shared
+
+  defined_there : (kind : FormKind) (g : ℕ) (nodes : List Core) (root : ℕ) → (kind ≡ Define g) ⊎ (kind ≡ Lset g) → IsDefinition x.unit.shared kind nodes root → g < length x.cps.shared.globals.items
+  defined_there kind g nodes root k d = subst (λ (s : Shared). g < length s.globals.items) (sym tr.shared) (by k)
+    where
+      within : (o : Option Global1) (Q : Global1 → Type 0) → slice_get x.unit.shared.globals.items g ≡ o → IsSomeAnd o Q → g < length x.unit.shared.globals.items
+      within None Q e h = absurd h
+      within (Some info) Q e h = slice_get_within x.unit.shared.globals.items g info e
+
+      by : (kind ≡ Define g) ⊎ (kind ≡ Lset g) → g < length x.unit.shared.globals.items
+      by (inl e) = within (slice_get x.unit.shared.globals.items g) _ refl (subst (λ k. IsDefinition x.unit.shared k nodes root) e d).1
+      by (inr e) = within (slice_get x.unit.shared.globals.items g) _ refl (subst (λ k. IsDefinition x.unit.shared k nodes root) e d).1
+
+  form_table : FormTable x A P R
+  form_table = record {
+    init = λ at f g a k there kind proc h. (
+        defined_there f.kind g f.nodes.items f.root kind (all_at (λ (form : Form). IsDefinition x.unit.shared form.kind form.nodes.items form.root) x.unit.forms.items at f w.definitions.forms there),
+        no_proc x w small tr.shared g proc, (h, tt)
+      );
+  }
+
+  root_table : RootTable x A P R
+  root_table = record {
+    closure = λ i f lam there n. narrow_lam x.unit small f lam (closure_of x.unit 0 x.unit.shared.globals.items i f there) n;
+    default = λ o f lam there n. narrow_lam x.unit small f lam (default_node x.unit o 0 x.unit.forms.items f (λ i h e. subst (λ m. slice_get x.unit.forms.items m ≡ Some h) (omega arith) e) there) n;
+  }
+
+  abbrev table : Table x A P R
+  table = fine_table x w small tr.shared
+
+  term_fine : (t : ℕ) (term : Term) → slice_get x.cps.terms.items t ≡ Some term → Full x A P R term
+  term_fine t term e = all_full x A P R table form_table root_table tr owed.ordered t term e
+
+  -- a procedure that isn't named by a term is a global's or an operation's
+  lam_fine : (l : ℕ) (lam : Lam) → slice_get x.cps.lams.items l ≡ Some lam → R lam
+  lam_fine l lam e = elim (cases_lt l (first_lams x.cps)) [
+    | inl low ↦ (first_good x A P R table form_table root_table tr l low lam e).0
+    | inr high ↦ named (nat_lt l (first_lams x.cps)) refl (omega (arith, high)) (owed.lams_once l (slice_get_within x.cps.lams.items l lam e))
+  ]
+    where
+      from_term : 1 ≤ tally (named_lams x.cps) l → R lam
+      from_term h =
+          let r = flat_some lams_of x.cps.terms.items l h in
+          tallied (LamIs x A P R) (lams_of r.1) l (term_fine r.0 r.1 r.2).1 r.3 lam e
+
+      named : (b : Bool) → nat_lt l (first_lams x.cps) ≡ b → first_lams x.cps ≤ l → tally (named_lams x.cps) l ≡ one (not b) → R lam
+      named false q le h = from_term (omega (arith, h))
+      named true q le h = let lt = ltb-true l (first_lams x.cps) q in absurd (omega (arith, lt, le))
+
+  is_shaped : AreShaped x.cps
+  is_shaped = record {
+    names = listed (HasOuterNames x.cps) x.cps.terms.items (λ t term e. let f = (term_fine t term e).0 in record { args = all_of_each (IsArgThere x.cps.shared) (args_of term) (each_more A (IsArgThere x.cps.shared) (args_of term) (λ a h. h.0) f.2); names = f.0 });
+    terms = listed (IsShaped x.cps) x.cps.terms.items (λ t term e. let f = (term_fine t term e).0 in record { args = all_of_each (IsArgShaped x.cps.shared) (args_of term) (each_more A (IsArgShaped x.cps.shared) (args_of term) (λ a h. h.1) f.2); lists = f.1 });
+    parameters = listed (λ (lam : Lam). length lam.params ≤ most_operands) x.cps.lams.items lam_fine;
+  }
+
+pub converted_is_shaped : ConvertedIsShaped
+converted_is_shaped unit cps w small c owed = is_shaped (record { unit = unit; cps = cps; origins = c.origins }) w small c.translated owed

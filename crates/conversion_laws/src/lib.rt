@@ -2,6 +2,7 @@
 #![tactic(auto)]
 
 ghost use Rattle.conversion_laws.specs.Plain.{PlainGivesPlain, NoCatchIsMade};
+ghost use Rattle.conversion_laws.specs.Shapes.{ConvertedIsShaped};
 
 /// A unit without assigned variables, globals, operations, objects and CATCH becomes terms of the kinds Call, Prim, If, Labels, Join, Give
 /// and Halt alone, and no argument is a global or an operation.
@@ -12,4 +13,10 @@ pub fn plain_gives_plain()
 /// A unit without CATCH becomes no Catch and no Uncatch.
 pub fn no_catch_is_made()
     ensures { NoCatchIsMade }
+{}
+
+/// In a program that stands for a whole unit within its limits, what a term names in the shared parts is there, lists agree with what names
+/// them, and no procedure has more than twenty parameters.
+pub fn converted_is_shaped()
+    ensures { ConvertedIsShaped }
 {}
