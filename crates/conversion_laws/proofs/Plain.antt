@@ -1,7 +1,7 @@
 -- Which kinds of terms stand for nodes of some kinds.
 use Rattle.std.specs.List.{AllByRecursion, list_any}
 use Rattle.std.specs.Option.{option_map, option_and_then}
-use Rattle.std.proofs.Common.{◌≡◌, ℕ, zero, suc, ◌&&◌, ◌||◌, Bool, true, false, if◌then◌else◌, ◌⊎◌, inl, inr, List, [], ◌∷◌, length, Option, Some, None, slice_get, refl, sym, ap, ◌∙◌, subst}
+use Rattle.std.proofs.Common.{◌≡◌, ℕ, suc, ◌&&◌, ◌||◌, Bool, true, false, if◌then◌else◌, ◌⊎◌, inl, inr, List, [], ◌∷◌, Option, Some, None, slice_get, refl, sym, ap, ◌∙◌, subst}
 use Rattle.std.proofs.lemmas.Bool.{true≢false}
 use Rattle.t_base.specs.declared.basics.Var.{Var}
 use Rattle.t_base.specs.declared.shared_parts.Global1.{Global1}
@@ -21,10 +21,10 @@ use Rattle.cps_ir.specs.declared.args.Arg.TheVariants as Argument
 use Rattle.cps_ir.specs.declared.terms.Lam.{Lam}
 use Rattle.cps_ir.specs.declared.terms.Term.{Term}
 use Rattle.cps_ir.proofs.ProperLists.{some_same, none_some}
-use Rattle.cps_conversion.specs.Conversion.{Translation, ready_arg, ready_at, is_proc, name_of_global, name_of_op}
-use Rattle.conversion_laws.specs.Plain.{is_plain, is_no_catch, is_plain_kind, Passes, IsPlain, is_plain_arg, are_plain, is_plain_term, is_no_catch_term, PlainGivesPlain, NoCatchIsMade}
-use Rattle.conversion_laws.proofs.Visits.{Table, FormTable}
-use Rattle.conversion_laws.proofs.Roots.{RootTable, all_full}
+use Rattle.cps_conversion.specs.Conversion.{Translation, ready_arg, ready_at}
+use Rattle.conversion_laws.specs.Plain.{is_plain, is_no_catch, is_plain_kind, Passes, is_plain_arg, are_plain, is_plain_term, is_no_catch_term, PlainGivesPlain, NoCatchIsMade}
+use Rattle.conversion_laws.proofs.Visits.{Table}
+use Rattle.conversion_laws.proofs.Roots.{all_full}
 
 never : {Z : Type 0} → false ≡ true → Z
 never e = absurd (true≢false (sym e))

@@ -1,12 +1,11 @@
 -- What holds of all terms of a program that stands for a unit.
-use Rattle.std.specs.List.{AllByRecursion, filter, flat_map}
+use Rattle.std.specs.List.{AllByRecursion, filter}
 use Rattle.std.specs.Option.{option_map_or}
-use Rattle.std.proofs.Common.{◌≡◌, ℕ, zero, suc, ◌≤◌, ◌<◌, ◌+◌, ◌==◌, cond, Bool, true, false, if◌then◌else◌, ◌⊎◌, inl, inr, List, [], ◌∷◌, length, map, take, Option, Some, None, slice_get, refl, sym, ap, ◌∙◌, subst, arith}
+use Rattle.std.proofs.Common.{◌≡◌, ℕ, zero, suc, ◌≤◌, ◌<◌, ◌+◌, ◌==◌, cond, Bool, true, false, if◌then◌else◌, inl, inr, List, [], ◌∷◌, length, map, take, Option, Some, None, slice_get, refl, sym, ap, ◌∙◌, subst, arith}
 use Rattle.std.proofs.lemmas.Bool.{eqb-true, cases_lt}
 use Rattle.std.proofs.lemmas.Option.{slice_get_within}
 use Rattle.t_base.specs.declared.shared_parts.Global1.{Global1}
 use Rattle.t_base.specs.declared.shared_parts.OpInfo.{OpInfo}
-use Rattle.t_core.specs.declared.forms.UnitCore.{UnitCore}
 use Rattle.t_meaning.specs.State.{Procedure}
 use Rattle.t_meaning.specs.Operations.{default_of}
 use Rattle.t_meaning.specs.Units.{start}
@@ -15,11 +14,10 @@ use Rattle.cps_ir.specs.declared.args.Arg.{Arg}
 use Rattle.cps_ir.specs.declared.args.Arg.TheVariants as Argument
 use Rattle.cps_ir.specs.declared.terms.Lam.{Lam}
 use Rattle.cps_ir.specs.declared.terms.Term.{Term}
-use Rattle.cps_ir.specs.declared.terms.Cps.{Cps}
 use Rattle.cps_ir.specs.States.{Closure}
 use Rattle.cps_ir.specs.Calls.{default_of as cps_default_of, default_at}
 use Rattle.cps_ir.specs.Running.{start as cps_start, first_closures}
-use Rattle.cps_ir.specs.Parts.{Part, is_procedure, lambda_part, global_lams, first_lams, root_parts, depth_of, walked, walked_within}
+use Rattle.cps_ir.specs.Parts.{is_procedure, lambda_part, global_lams, first_lams, root_parts, depth_of, walked, walked_within}
 use Rattle.cps_ir.proofs.ProperLists.{some_same, none_some, each_more, each_joined}
 use Rattle.cps_conversion.specs.Conversion.{Translation, Stands, ConvertsWithin, RootAs, RootsAs, DefaultAs, IsTranslated}
 use Rattle.cps_order.specs.Order.{one, tally, IsOrdered}
@@ -122,9 +120,9 @@ module _ (x : Translation) (A : Arg → Type 0) (P : Term → Type 0) (R : Lam �
 
     roots_good : AllByRecursion (λ p. Good x A P R p.at) (root_parts x.cps)
     roots_good = (
-        forms_good x A P R T F tr.depth 0 x.unit.forms.items (Argument.Const Constant.Nil) x.cps.entry (λ i f e. subst (λ n. slice_get x.unit.forms.items n ≡ Some f) (sym (zero_plus i)) e) (T.nil, tt) tr.forms,
-        lams_first (first_lams x.cps) x.cps.lams.items (λ l lam lt e. (first_good l lt lam e).1)
-      )
+      forms_good x A P R T F tr.depth 0 x.unit.forms.items (Argument.Const Constant.Nil) x.cps.entry (λ i f e. subst (λ n. slice_get x.unit.forms.items n ≡ Some f) (sym (zero_plus i)) e) (T.nil, tt) tr.forms,
+      lams_first (first_lams x.cps) x.cps.lams.items (λ l lam lt e. (first_good l lt lam e).1),
+    )
 
     walked_full : AllByRecursion (FullAt x A P R) (walked x.cps)
     walked_full = each_joined (λ p. walked_within x.cps (depth_of x.cps) p.at) (FullAt x A P R) (root_parts x.cps) (each_more (λ p. Good x A P R p.at) (λ p. AllByRecursion (FullAt x A P R) (walked_within x.cps (depth_of x.cps) p.at)) (root_parts x.cps) (λ p g. g.each (depth_of x.cps)) roots_good)

@@ -1,11 +1,9 @@
 -- What all terms and procedures name is there, and their lists agree.
-use Rattle.std.specs.Prelude.{nat_lt, not, All, IsSomeAnd, Result, Ok}
-use Rattle.std.specs.List.{AllByRecursion, flat_map}
-use Rattle.std.specs.Option.{option_map_or, option_and_then}
-use Rattle.std.proofs.Common.{◌≡◌, ℕ, zero, suc, ◌+◌, ◌≤◌, ◌<◌, ◌==◌, Bool, true, false, if◌then◌else◌, ◌⊎◌, inl, inr, List, [], ◌∷◌, length, Option, Some, None, slice_get, get_or, refl, sym, ap, ◌∙◌, subst, arith, le_trans}
+use Rattle.std.specs.Prelude.{nat_lt, not, All, IsSomeAnd, Ok}
+use Rattle.std.specs.Option.{option_and_then}
+use Rattle.std.proofs.Common.{◌≡◌, ℕ, zero, suc, ◌+◌, ◌≤◌, ◌<◌, Bool, true, false, if◌then◌else◌, ◌⊎◌, inl, inr, List, [], ◌∷◌, length, Option, Some, None, slice_get, get_or, refl, sym, ap, ◌∙◌, subst, arith}
 use Rattle.std.proofs.lemmas.Bool.{cases_lt, ltb-true}
 use Rattle.std.proofs.lemmas.Option.{slice_get-get_or, slice_get_within}
-use Rattle.t_base.specs.declared.basics.Var.{Var}
 use Rattle.t_base.specs.declared.shared_parts.Global1.{Global1}
 use Rattle.t_base.specs.declared.shared_parts.Shared.{Shared}
 use Rattle.t_core.specs.declared.forms.Core.{Core}
@@ -15,22 +13,21 @@ use Rattle.t_core.specs.declared.forms.FormKind.{FormKind}
 use Rattle.t_core.specs.declared.forms.FormKind.TheVariants.{Define, Lset, Operation, Plain}
 use Rattle.t_core.specs.declared.forms.UnitCore.{UnitCore}
 use Rattle.t_core.specs.Limits.{limit_of}
-use Rattle.t_core.specs.Whole.{IsWhole as IsWholeUnit, IsDefinition, DefinesAs, defines_global, defines_op}
+use Rattle.t_core.specs.Whole.{IsWhole as IsWholeUnit, IsDefinition, defines_global, defines_op}
 use Rattle.t_meaning.specs.Programs.{node_at}
 use Rattle.t_meaning.specs.State.{Procedure}
-use Rattle.t_meaning.specs.Operations.{procedure_of, lambda_of, default_in, default_of}
-use Rattle.t_meaning.specs.Units.{defined_by, definition_in, definitions, definitions_of, first_closures, start}
+use Rattle.t_meaning.specs.Operations.{procedure_of, lambda_of, default_in}
+use Rattle.t_meaning.specs.Units.{defined_by, definition_in, definitions, first_closures}
 use Rattle.cps_ir.specs.declared.args.Arg.{Arg}
 use Rattle.cps_ir.specs.declared.terms.Lam.{Lam}
 use Rattle.cps_ir.specs.declared.terms.Term.{Term}
-use Rattle.cps_ir.specs.declared.terms.Cps.{Cps}
 use Rattle.cps_ir.specs.Parts.{first_lams, lams_of}
-use Rattle.cps_ir.specs.Whole.{most_operands, IsShaped, IsArgThere, IsArgShaped, NamesAreThere, IsTermShaped}
+use Rattle.cps_ir.specs.Whole.{most_operands, IsShaped, IsArgThere, IsArgShaped}
 use Rattle.cps_ir.specs.Terms.{args_of}
-use Rattle.cps_ir.proofs.ProperLists.{some_same, none_some, all_at, each_more}
+use Rattle.cps_ir.proofs.ProperLists.{none_some, all_at, each_more}
 use Rattle.cps_ir.proofs.Closed.{all_of_each}
 use Rattle.cps_conversion.specs.Conversion.{Translation, IsTranslated}
-use Rattle.cps_order.specs.Order.{one, tally, IsOrdered}
+use Rattle.cps_order.specs.Order.{one, tally}
 use Rattle.cps_order.proofs.Reached.{flat_some}
 use Rattle.conversion_laws.specs.Owed.{IsOwed, named_lams}
 use Rattle.conversion_laws.specs.Shapes.{HasOuterNames, AreShaped, ConvertedIsShaped}
@@ -149,9 +146,10 @@ module _ (x : Translation) (w : IsWholeUnit x.unit) (small : limit_of x.unit ≡
   form_table : FormTable x A P R
   form_table = record {
     init = λ at f g a k there kind proc h. (
-        defined_there f.kind g f.nodes.items f.root kind (all_at (λ (form : Form). IsDefinition x.unit.shared form.kind form.nodes.items form.root) x.unit.forms.items at f w.definitions.forms there),
-        no_proc x w small tr.shared g proc, (h, tt)
-      );
+      defined_there f.kind g f.nodes.items f.root kind (all_at (λ (form : Form). IsDefinition x.unit.shared form.kind form.nodes.items form.root) x.unit.forms.items at f w.definitions.forms there),
+      no_proc x w small tr.shared g proc,
+      (h, tt),
+    );
   }
 
   root_table : RootTable x A P R

@@ -1,10 +1,10 @@
 -- What terms name is there, and lists agree.
-use Rattle.std.specs.Prelude.{nat_lt, not, All, IsSomeAnd, Result, Ok}
-use Rattle.std.specs.List.{AllByRecursion, flat_map}
+use Rattle.std.specs.Prelude.{All, IsSomeAnd, Ok}
+use Rattle.std.specs.List.{AllByRecursion}
 use Rattle.std.specs.Option.{option_map, option_map_or, option_and_then}
-use Rattle.std.proofs.Common.{◌≡◌, ◌≢◌, ℕ, zero, suc, ◌+◌, ◌≤◌, ◌<◌, Bool, true, false, if◌then◌else◌, ◌⊎◌, inl, inr, List, [], ◌∷◌, length, Option, Some, None, slice_get, get_or, refl, sym, ap, ◌∙◌, subst, arith}
-use Rattle.std.proofs.lemmas.Bool.{true≢false, cases_lt}
-use Rattle.std.proofs.lemmas.Option.{slice_get-get_or, slice_get_within}
+use Rattle.std.proofs.Common.{◌≡◌, ℕ, suc, ◌≤◌, ◌<◌, Bool, true, false, if◌then◌else◌, List, [], ◌∷◌, length, Option, Some, None, slice_get, refl, sym, ap, ◌∙◌, subst, arith}
+use Rattle.std.proofs.lemmas.Bool.{true≢false}
+use Rattle.std.proofs.lemmas.Option.{slice_get_within}
 use Rattle.t_base.specs.declared.basics.Var.{Var}
 use Rattle.t_base.specs.declared.shared_parts.Global1.{Global1}
 use Rattle.t_base.specs.declared.shared_parts.GlobalKind.{GlobalKind}
@@ -17,27 +17,22 @@ use Rattle.t_prim.specs.SharedParts.{IsConst}
 use Rattle.t_core.specs.declared.forms.Core.{Core}
 use Rattle.t_core.specs.declared.forms.Core.TheVariants as Node
 use Rattle.t_core.specs.declared.forms.Method.{Method}
-use Rattle.t_core.specs.declared.forms.Form.{Form}
-use Rattle.t_core.specs.declared.forms.FormKind.{FormKind}
-use Rattle.t_core.specs.declared.forms.FormKind.TheVariants.{Define, Lset, Operation, Plain}
-use Rattle.t_core.specs.declared.forms.UnitCore.{UnitCore}
 use Rattle.t_core.specs.Limits.{limit_of}
-use Rattle.t_core.specs.Whole.{IsWhole as IsWholeUnit, IsDefinition, DefinesAs}
+use Rattle.t_core.specs.Whole.{IsWhole as IsWholeUnit}
 use Rattle.t_meaning.specs.Programs.{node_at}
 use Rattle.t_meaning.specs.Costs.{is_assigned}
 use Rattle.cps_ir.specs.declared.args.Arg.{Arg}
 use Rattle.cps_ir.specs.declared.args.Arg.TheVariants as Argument
 use Rattle.cps_ir.specs.declared.terms.Lam.{Lam}
 use Rattle.cps_ir.specs.declared.terms.Term.{Term}
-use Rattle.cps_ir.specs.declared.terms.Cps.{Cps}
 use Rattle.cps_ir.specs.Terms.{args_of}
 use Rattle.cps_ir.specs.Parts.{is_proc as is_proc_kind, is_procedure}
 use Rattle.cps_ir.specs.Whole.{IsArgThere, NamesAreThere, IsArgShaped, IsTermShaped, IsProcedure, IsNoProcedure, HasSelf, most_operands}
 use Rattle.cps_ir.proofs.ProperLists.{some_same, none_some, all_at, all_head, all_tail}
 use Rattle.cps_ir.proofs.Closed.{all_of_each}
 use Rattle.cps_conversion.specs.Conversion.{Translation, ready_arg, ready_at, is_proc, name_of_global, name_of_op}
-use Rattle.conversion_laws.proofs.Visits.{Table, FormTable, MethodLams}
-use Rattle.conversion_laws.proofs.Widths.{in_greatest, InForm, in_form, node_narrow, node_names, node_shaped}
+use Rattle.conversion_laws.proofs.Visits.{Table, MethodLams}
+use Rattle.conversion_laws.proofs.Widths.{in_greatest, node_narrow, node_names, node_shaped}
 
 proc_only : (kind : GlobalKind) → is_proc_kind kind ≡ true → kind ≡ Proc
 proc_only Proc e = refl

@@ -1,8 +1,8 @@
 -- What holds of each term that a conversion makes, by the kind of node for which it is made.
-use Rattle.std.specs.Prelude.{not, nat_lt}
+use Rattle.std.specs.Prelude.{nat_lt}
 use Rattle.std.specs.List.{AllByRecursion, filter_map, flat_map, cons_option}
 use Rattle.std.specs.Option.{option_map, option_map_or, option_and_then}
-use Rattle.std.proofs.Common.{◌≡◌, ℕ, zero, suc, ◌≤◌, ◌<◌, ◌+◌, cond, Bool, true, false, if◌then◌else◌, ◌⊎◌, inl, inr, List, [], ◌∷◌, ◌++◌, length, map, Option, Some, None, slice_get, refl, sym, ap, ◌∙◌, subst, arith}
+use Rattle.std.proofs.Common.{◌≡◌, ℕ, zero, suc, ◌+◌, Bool, true, false, if◌then◌else◌, ◌⊎◌, inl, inr, List, [], ◌∷◌, length, map, Option, Some, None, slice_get, refl, sym, ap, ◌∙◌, subst, arith}
 use Rattle.t_base.specs.declared.basics.Var.{Var}
 use Rattle.t_base.specs.declared.builtins.Builtin.{Builtin}
 use Rattle.t_base.specs.declared.shared_parts.Const.{Const}
@@ -26,7 +26,7 @@ use Rattle.cps_ir.specs.declared.terms.Term.{Term}
 use Rattle.cps_ir.specs.declared.terms.Term.TheVariants as Step
 use Rattle.cps_ir.specs.Parts.{Name, Part, proc_of, lams_of, lambda_at, lambda_part, around, own_parts, cont_parts, parts_of, first_lams, walked_within}
 use Rattle.cps_ir.proofs.ProperLists.{some_same, none_some, each_append, each_more, each_joined}
-use Rattle.cps_conversion.specs.Conversion.{Translation, Stands, Converting, Assigned, variables, adding, is_proc, ready_at, nowhere, ready_arg, Values, OverAll, OverOne, LamAs, LamAt, LambdaAt, WithName, LambdaFor, IfAs, BlockAs, own_place, LetAs, unset, Names, Sets, LambdaNode, LambdaNodes, adding_assigned, LabelsAs, CatchAs, MethodsAs, ObjectAs, CallAs, PrimAs, ConvertsNode, ConvertsWithin, name_of_global, name_of_op, PlainAs, InitAs, FormAs, FormsAs}
+use Rattle.cps_conversion.specs.Conversion.{Translation, Stands, Converting, Assigned, variables, adding, is_proc, ready_at, nowhere, ready_arg, Values, OverAll, OverOne, LamAt, LambdaAt, WithName, LambdaFor, IfAs, BlockAs, own_place, LetAs, unset, Names, Sets, LambdaNode, LambdaNodes, adding_assigned, LabelsAs, CatchAs, MethodsAs, ObjectAs, CallAs, PrimAs, ConvertsNode, ConvertsWithin, name_of_global, name_of_op, InitAs, FormAs, FormsAs}
 
 module _ (x : Translation) (A : Arg → Type 0) (P : Term → Type 0) (R : Lam → Type 0) where
   -- the procedures of methods, each with as many parameters
@@ -87,10 +87,10 @@ module _ (x : Translation) (A : Arg → Type 0) (P : Term → Type 0) (R : Lam �
       by : (depth : ℕ) → AllByRecursion FullAt (walked_within x.cps depth t)
       by zero = tt
       by (suc depth) = (
-          λ u q. subst Full (some_same term u (sym e ∙ q)) full,
-          subst (λ o. AllByRecursion FullAt (option_map_or (λ s. flat_map (λ p. walked_within x.cps depth p.at) (parts_of x.cps [] s)) o [])) (sym e)
-          (each_joined (λ p. walked_within x.cps depth p.at) FullAt (parts_of x.cps [] term) (each_more GoodPart (λ p. AllByRecursion FullAt (walked_within x.cps depth p.at)) (parts_of x.cps [] term) (λ p g. g.each depth) parts))
-        )
+        λ u q. subst Full (some_same term u (sym e ∙ q)) full,
+        subst (λ o. AllByRecursion FullAt (option_map_or (λ s. flat_map (λ p. walked_within x.cps depth p.at) (parts_of x.cps [] s)) o [])) (sym e)
+            (each_joined (λ p. walked_within x.cps depth p.at) FullAt (parts_of x.cps [] term) (each_more GoodPart (λ p. AllByRecursion FullAt (walked_within x.cps depth p.at)) (parts_of x.cps [] term) (λ p g. g.each depth) parts)),
+      )
 
   lams_good : (names : List Name) (ls : List ℕ) → AllByRecursion GoodLam ls → AllByRecursion GoodPart (map (lambda_part names) (filter_map (lambda_at x.cps) ls))
   lams_good names [] h = tt
@@ -240,11 +240,10 @@ module _ (x : Translation) (A : Arg → Type 0) (P : Term → Type 0) (R : Lam �
     -- a procedure has as many parameters as it stands for, and its body is good
     pub lam_good : (form : ℕ) (bound : List ℕ) (params : List Var) (body l : ℕ) → ((lam : Lam) → length lam.params ≡ length params → R lam) → LamAt x conv form bound params body l → GoodLam l
     lam_good form bound params body l f h lam e =
-        subst (λ z. R z × Good z.body) (some_same h.0 lam (sym h.1 ∙ e))
-        (
+        subst (λ z. R z × Good z.body) (some_same h.0 lam (sym h.1 ∙ e)) (
           f h.0 (sym (variables_count h.0.params) ∙ assigned_count (adding h.0.params bound) params (variables h.0.params) h.0.body h.2.start h.2.assigned),
           assigned_good T (adding h.0.params bound) params (variables h.0.params) h.0.body h.2.start (variables_good T h.0.params)
-          (go form (adding params bound) (adding params bound) body (Continuation.Var h.0.k) h.2.start tt h.2.body_as) h.2.assigned
+              (go form (adding params bound) (adding params bound) body (Continuation.Var h.0.k) h.2.start tt h.2.body_as) h.2.assigned,
         )
 
     lambda_good : (form key : ℕ) (bound : List ℕ) (params : List Var) (body l : ℕ) → node_at x.unit form key ≡ Some (Node.Lambda params body) → LambdaAt x conv form bound key params body l → GoodLam l
@@ -336,13 +335,12 @@ module _ (x : Translation) (A : Arg → Type 0) (P : Term → Type 0) (R : Lam �
 
     catch_good : (form key : ℕ) (bound held : List ℕ) (v : Var) (body : ℕ) (k : Cont) (t : ℕ) → node_at x.unit form key ≡ Some (Node.Catch v body) → GoodCont k → CatchAs x conv form bound held v body k t → Good t
     catch_good form key bound held v body k t q g h =
-        good t (Step.Catch h.name h.inner k) h.stands (T.catches form key body v h.name h.inner k q) tt
-        (
+        good t (Step.Catch h.name h.inner k) h.stands (T.catches form key body v h.name h.inner k q) tt (
           assigned_good T (h.name.0 ∷ held) (v ∷ []) (Argument.Var h.name ∷ []) h.inner h.start (var_good T h.name, tt)
-          (go form (v.0 ∷ bound) (v.0 ∷ held) body (Continuation.Lam h.value h.end) h.start
-          (good h.end (Step.Uncatch k (Argument.Var h.value)) h.ends (T.uncatch form key body v (Argument.Var h.value) k q (T.var h.value)) tt (cont_good k [] g)) h.body_as)
-          h.assigned,
-          cont_good k [] g
+              (go form (v.0 ∷ bound) (v.0 ∷ held) body (Continuation.Lam h.value h.end) h.start
+              (good h.end (Step.Uncatch k (Argument.Var h.value)) h.ends (T.uncatch form key body v (Argument.Var h.value) k q (T.var h.value)) tt (cont_good k [] g)) h.body_as)
+              h.assigned,
+          cont_good k [] g,
         )
 
     methods_good : (form : ℕ) (bound : List ℕ) (methods : List Method) (ops lams : List ℕ) → ((i : ℕ) (m : Method) (lam : Lam) → slice_get methods i ≡ Some m → length lam.params ≡ length m.params → R lam) → MethodsAs x conv form bound methods ops lams → MethodLams methods ops lams × AllByRecursion GoodLam lams

@@ -1,7 +1,7 @@
 -- What is known of each node of a whole unit within its limits.
-use Rattle.std.specs.Prelude.{nat_lt, max, fold, Result, Ok, Err, if◌then◌else◌, All}
+use Rattle.std.specs.Prelude.{nat_lt, max, fold, Result, Ok, Err, if◌then◌else◌}
 use Rattle.std.specs.Option.{option_and_then}
-use Rattle.std.proofs.Common.{◌≡◌, ℕ, zero, suc, ◌+◌, ◌≤◌, ◌<◌, Bool, true, false, List, [], ◌∷◌, length, Option, Some, None, slice_get, refl, sym, ap, ◌∙◌, subst, arith, le_trans}
+use Rattle.std.proofs.Common.{◌≡◌, ℕ, zero, suc, ◌+◌, ◌≤◌, Bool, true, false, List, [], ◌∷◌, Option, Some, None, slice_get, refl, subst, arith, le_trans}
 use Rattle.std.proofs.Math.Nat.{le-max_left, le-max_right}
 use Rattle.std.proofs.lemmas.Bool.{ltb-false}
 use Rattle.t_core.specs.declared.forms.Core.{Core}

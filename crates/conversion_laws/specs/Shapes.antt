@@ -1,5 +1,5 @@
 -- What terms name is there, and lists agree.
-use Rattle.std.specs.Prelude.{◌≡◌, ◌≤◌, length, All, Result, Ok}
+use Rattle.std.specs.Prelude.{◌≡◌, ◌≤◌, length, All, Ok}
 use Rattle.t_core.specs.declared.forms.UnitCore.{UnitCore}
 use Rattle.t_core.specs.Limits.{limit_of}
 use Rattle.t_core.specs.Whole.{IsWhole as IsWholeUnit}
