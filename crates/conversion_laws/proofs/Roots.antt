@@ -84,7 +84,7 @@ module _ (x : Translation) (A : Arg → Type 0) (P : Term → Type 0) (R : Lam �
 
   module _ (T : Table x A P R) (F : FormTable x A P R) (Q : RootTable) (tr : IsTranslated x) where
     root_good : (f : Procedure) (c : Closure) → ((lam : Lam) → length lam.params ≡ length f.params → R lam) → RootAs x (ConvertsWithin x tr.depth) f c → GoodLam c.lam
-    root_good f c r h = lam_good x A P R T tr.depth (within_good x A P R T tr.depth) f.form [] f.params f.body c.lam r h
+    root_good f c r h = (lam_good x A P R T tr.depth (within_good x A P R T tr.depth) f.form [] f.params f.body c.lam r h).1
 
     global_root : (fs : List Procedure) (cs : List Closure) (i : ℕ) (c : Closure) → ((i : ℕ) (f : Procedure) (lam : Lam) → slice_get fs i ≡ Some f → length lam.params ≡ length f.params → R lam) → slice_get cs i ≡ Some c → RootsAs x (ConvertsWithin x tr.depth) fs cs → GoodLam c.lam
     global_root [] [] i c r e h = none_some c e

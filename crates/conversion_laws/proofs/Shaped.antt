@@ -1,8 +1,9 @@
 -- What all terms and procedures name is there, and their lists agree.
+use Rattle.std.specs.List.{AllByRecursion}
 use Rattle.std.specs.Prelude.{nat_lt, not, All, IsSomeAnd, Ok}
 use Rattle.std.specs.Option.{option_and_then}
-use Rattle.std.proofs.Common.{◌≡◌, ℕ, zero, suc, ◌+◌, ◌≤◌, ◌<◌, Bool, true, false, if◌then◌else◌, ◌⊎◌, inl, inr, List, [], ◌∷◌, length, Option, Some, None, slice_get, get_or, refl, sym, ap, ◌∙◌, subst, arith}
-use Rattle.std.proofs.lemmas.Bool.{cases_lt, ltb-true}
+use Rattle.std.proofs.Common.{◌≡◌, ℕ, zero, suc, ◌+◌, ◌≤◌, ◌<◌, Bool, true, false, if◌then◌else◌, ◌⊎◌, inl, inr, List, [], ◌∷◌, length, Option, Some, None, slice_get, get_or, refl, sym, ap, ◌∙◌, subst, arith, map}
+use Rattle.std.proofs.lemmas.Bool.{cases_lt, ltb-true, ltb-false}
 use Rattle.std.proofs.lemmas.Option.{slice_get-get_or, slice_get_within}
 use Rattle.t_base.specs.declared.shared_parts.Global1.{Global1}
 use Rattle.t_base.specs.declared.shared_parts.Shared.{Shared}
@@ -21,16 +22,17 @@ use Rattle.t_meaning.specs.Units.{defined_by, definition_in, definitions, first_
 use Rattle.cps_ir.specs.declared.args.Arg.{Arg}
 use Rattle.cps_ir.specs.declared.terms.Lam.{Lam}
 use Rattle.cps_ir.specs.declared.terms.Term.{Term}
-use Rattle.cps_ir.specs.Parts.{first_lams, lams_of}
-use Rattle.cps_ir.specs.Whole.{most_operands, IsShaped, IsArgThere, IsArgShaped}
+use Rattle.cps_walk.specs.Walks.{own_places, lambda_places, part_places}
+use Rattle.cps_ir.specs.Parts.{Part, own_parts, root_lams, first_lams, lams_of}
+use Rattle.cps_ir.specs.Whole.{HasNames, IsLambda, most_operands, IsShaped, IsArgThere, IsArgShaped}
 use Rattle.cps_ir.specs.Terms.{args_of}
-use Rattle.cps_ir.proofs.ProperLists.{none_some, all_at, each_more}
-use Rattle.cps_ir.proofs.Closed.{all_of_each}
+use Rattle.cps_ir.proofs.ProperLists.{none_some, all_at, each_more, each_of_two, each_right, each_of_all, all_head}
+use Rattle.cps_ir.proofs.Closed.{all_of_each, same_number}
 use Rattle.cps_conversion.specs.Conversion.{Translation, IsTranslated}
 use Rattle.cps_order.specs.Order.{one, tally}
-use Rattle.cps_order.proofs.Reached.{flat_some}
+use Rattle.cps_order.proofs.Reached.{flat_some, flat_has}
 use Rattle.conversion_laws.specs.Owed.{IsOwed, named_lams}
-use Rattle.conversion_laws.specs.Shapes.{HasOuterNames, AreShaped, ConvertedIsShaped}
+use Rattle.conversion_laws.specs.Shapes.{AreShaped, ConvertedIsShaped}
 use Rattle.conversion_laws.proofs.Visits.{Table, FormTable, LamIs, Full}
 use Rattle.conversion_laws.proofs.Roots.{RootTable, tallied, first_good, all_full}
 use Rattle.conversion_laws.proofs.Widths.{node_narrow}
@@ -174,15 +176,46 @@ module _ (x : Translation) (w : IsWholeUnit x.unit) (small : limit_of x.unit ≡
       from_term : 1 ≤ tally (named_lams x.cps) l → R lam
       from_term h =
           let r = flat_some lams_of x.cps.terms.items l h in
-          tallied (LamIs x A P R) (lams_of r.1) l (term_fine r.0 r.1 r.2).1 r.3 lam e
+          (tallied (LamIs x A P R) (lams_of r.1) l (term_fine r.0 r.1 r.2).1 r.3).1 lam e
 
       named : (b : Bool) → nat_lt l (first_lams x.cps) ≡ b → first_lams x.cps ≤ l → tally (named_lams x.cps) l ≡ one (not b) → R lam
       named false q le h = from_term (omega (arith, h))
       named true q le h = let lt = ltb-true l (first_lams x.cps) q in absurd (omega (arith, lt, le))
 
+  -- ---- places
+
+  each_tallied : (ls : List ℕ) → AllByRecursion (λ l. 1 ≤ tally ls l) ls
+  each_tallied [] = tt
+  each_tallied (l ∷ ls) = (
+      subst (λ b. 1 ≤ one b + tally ls l) (sym (same_number l l refl)) (omega arith),
+      each_more (λ m. 1 ≤ tally ls m) (λ m. 1 ≤ tally (l ∷ ls) m) ls (λ m h. omega (arith, h)) (each_tallied ls)
+    )
+
+  -- a procedure that a term names is none of a global or an operation
+  behind : (t : ℕ) (term : Term) (l : ℕ) → slice_get x.cps.terms.items t ≡ Some term → 1 ≤ tally (lams_of term) l → l < length x.cps.lams.items → first_lams x.cps ≤ l
+  behind t term l e h lt = by (nat_lt l (first_lams x.cps)) refl (owed.lams_once l lt) (flat_has lams_of x.cps.terms.items l t term e h)
+    where
+      by : (b : Bool) → nat_lt l (first_lams x.cps) ≡ b → tally (named_lams x.cps) l ≡ one (not b) → 1 ≤ tally (named_lams x.cps) l → first_lams x.cps ≤ l
+      by true q n h = absurd (omega (arith, n, h))
+      by false q n h = ltb-false l (first_lams x.cps) q
+
+  lambdas_fine : (t : ℕ) (term : Term) → slice_get x.cps.terms.items t ≡ Some term → AllByRecursion (IsLambda x.cps) (lams_of term)
+  lambdas_fine t term e = each_of_two (LamIs x A P R) (λ l. 1 ≤ tally (lams_of term) l) (IsLambda x.cps) (lams_of term) (λ l is h. (behind t term l e h is.0, is.0)) (term_fine t term e).1 (each_tallied (lams_of term))
+
+  each_mapped : {X Y : Type 0} (Q : Y → Type 0) (f : X → Y) (xs : List X) → AllByRecursion Q (map f xs) → AllByRecursion (λ y. Q (f y)) xs
+  each_mapped Q f [] h = tt
+  each_mapped Q f (y ∷ xs) h = (h.0, each_mapped Q f xs h.1)
+
+  parts_there : (t : ℕ) (term : Term) → slice_get x.cps.terms.items t ≡ Some term → AllByRecursion (λ (p : Part). p.at < length x.cps.terms.items) (own_parts [] term)
+  parts_there t term e =
+      let within = slice_get_within x.cps.terms.items t term e in
+      each_more (λ (p : Part). p.at < t) (λ (p : Part). p.at < length x.cps.terms.items) (own_parts [] term) (λ p h. omega (arith, h, within))
+      (each_mapped (λ u. u < t) (λ (p : Part). p.at) (own_parts [] term) (each_right (λ u. u < t) (lambda_places x.cps term) (own_places term) (each_of_all (λ u. u < t) (part_places x.cps term) (owed.ordered.lower t term e))))
+
   is_shaped : AreShaped x.cps
   is_shaped = record {
-    names = listed (HasOuterNames x.cps) x.cps.terms.items (λ t term e. let f = (term_fine t term e).0 in record { args = all_of_each (IsArgThere x.cps.shared) (args_of term) (each_more A (IsArgThere x.cps.shared) (args_of term) (λ a h. h.0) f.2); names = f.0 });
+    names = listed (HasNames x.cps) x.cps.terms.items (λ t term e. let f = (term_fine t term e).0 in record { args = all_of_each (IsArgThere x.cps.shared) (args_of term) (each_more A (IsArgThere x.cps.shared) (args_of term) (λ a h. h.0) f.2); names = f.0; terms = all_of_each (λ (p : Part). p.at < length x.cps.terms.items) (own_parts [] term) (parts_there t term e); lams = all_of_each (IsLambda x.cps) (lams_of term) (lambdas_fine t term e) });
+    entry = all_head (λ u. u < length x.cps.terms.items) x.cps.entry (map (λ (lam : Lam). lam.body) (root_lams x.cps)) owed.ordered.roots;
     terms = listed (IsShaped x.cps) x.cps.terms.items (λ t term e. let f = (term_fine t term e).0 in record { args = all_of_each (IsArgShaped x.cps.shared) (args_of term) (each_more A (IsArgShaped x.cps.shared) (args_of term) (λ a h. h.1) f.2); lists = f.1 });
     parameters = listed (λ (lam : Lam). length lam.params ≤ most_operands) x.cps.lams.items lam_fine;
   }

@@ -2,7 +2,8 @@
 use Rattle.std.specs.Prelude.{nat_lt}
 use Rattle.std.specs.List.{AllByRecursion, filter_map, flat_map, cons_option}
 use Rattle.std.specs.Option.{option_map, option_map_or, option_and_then}
-use Rattle.std.proofs.Common.{◌≡◌, ℕ, zero, suc, ◌+◌, Bool, true, false, if◌then◌else◌, ◌⊎◌, inl, inr, List, [], ◌∷◌, length, map, Option, Some, None, slice_get, refl, sym, ap, ◌∙◌, subst, arith}
+use Rattle.std.proofs.Common.{◌≡◌, ◌<◌, ℕ, zero, suc, ◌+◌, Bool, true, false, if◌then◌else◌, ◌⊎◌, inl, inr, List, [], ◌∷◌, length, map, Option, Some, None, slice_get, refl, sym, ap, ◌∙◌, subst, arith}
+use Rattle.std.proofs.lemmas.Option.{slice_get_within}
 use Rattle.t_base.specs.declared.basics.Var.{Var}
 use Rattle.t_base.specs.declared.builtins.Builtin.{Builtin}
 use Rattle.t_base.specs.declared.shared_parts.Const.{Const}
@@ -63,7 +64,7 @@ module _ (x : Translation) (A : Arg → Type 0) (P : Term → Type 0) (R : Lam �
   -- ---- what is reached from a place
 
   abbrev pub LamIs : ℕ → Type 0
-  LamIs l = (lam : Lam) → slice_get x.cps.lams.items l ≡ Some lam → R lam
+  LamIs l = (l < length x.cps.lams.items) × ((lam : Lam) → slice_get x.cps.lams.items l ≡ Some lam → R lam)
 
   abbrev pub Full : Term → Type 0
   Full term = P term × AllByRecursion LamIs (lams_of term)
@@ -78,7 +79,7 @@ module _ (x : Translation) (A : Arg → Type 0) (P : Term → Type 0) (R : Lam �
   GoodPart p = Good p.at
 
   abbrev GoodLam : ℕ → Type 0
-  GoodLam l = (lam : Lam) → slice_get x.cps.lams.items l ≡ Some lam → R lam × Good lam.body
+  GoodLam l = (l < length x.cps.lams.items) × ((lam : Lam) → slice_get x.cps.lams.items l ≡ Some lam → R lam × Good lam.body)
 
   good_of : (t : ℕ) (term : Term) → Stands x t term → Full term → AllByRecursion GoodPart (parts_of x.cps [] term) → Good t
   unfolding walked_within
@@ -99,11 +100,11 @@ module _ (x : Translation) (A : Arg → Type 0) (P : Term → Type 0) (R : Lam �
       by : (b : Bool) (o : Option Lam) → slice_get x.cps.lams.items l ≡ o → AllByRecursion GoodPart (map (lambda_part names) (filter_map (lambda_at x.cps) ls)) → AllByRecursion GoodPart (map (lambda_part names) (cons_option (if b then None else o) (filter_map (lambda_at x.cps) ls)))
       by true o e rest = rest
       by false None e rest = rest
-      by false (Some lam) e rest = ((h.0 lam e).1, rest)
+      by false (Some lam) e rest = ((h.0.1 lam e).1, rest)
 
   made : (t : ℕ) (term : Term) → Stands x t term → P term → AllByRecursion GoodLam (lams_of term) → AllByRecursion GoodPart (own_parts [] term) → Good t
   made t term e p lams own =
-      good_of t term e (p, each_more GoodLam LamIs (lams_of term) (λ l g lam q. (g lam q).0) lams)
+      good_of t term e (p, each_more GoodLam LamIs (lams_of term) (λ l g. (g.0, λ lam q. (g.1 lam q).0)) lams)
       (each_append GoodPart (map (lambda_part (around term)) (filter_map (lambda_at x.cps) (lams_of term))) (own_parts [] term) (lams_good (around term) (lams_of term) lams) own)
 
   -- ---- arguments and continuations
@@ -239,12 +240,15 @@ module _ (x : Translation) (A : Arg → Type 0) (P : Term → Type 0) (R : Lam �
 
     -- a procedure has as many parameters as it stands for, and its body is good
     pub lam_good : (form : ℕ) (bound : List ℕ) (params : List Var) (body l : ℕ) → ((lam : Lam) → length lam.params ≡ length params → R lam) → LamAt x conv form bound params body l → GoodLam l
-    lam_good form bound params body l f h lam e =
+    lam_good form bound params body l f h = (
+        slice_get_within x.cps.lams.items l h.0 h.1,
+        λ lam e.
         subst (λ z. R z × Good z.body) (some_same h.0 lam (sym h.1 ∙ e)) (
           f h.0 (sym (variables_count h.0.params) ∙ assigned_count (adding h.0.params bound) params (variables h.0.params) h.0.body h.2.start h.2.assigned),
           assigned_good T (adding h.0.params bound) params (variables h.0.params) h.0.body h.2.start (variables_good T h.0.params)
               (go form (adding params bound) (adding params bound) body (Continuation.Var h.0.k) h.2.start tt h.2.body_as) h.2.assigned,
         )
+      )
 
     lambda_good : (form key : ℕ) (bound : List ℕ) (params : List Var) (body l : ℕ) → node_at x.unit form key ≡ Some (Node.Lambda params body) → LambdaAt x conv form bound key params body l → GoodLam l
     lambda_good form key bound params body l q h = lam_good form bound params body l (λ lam c. T.lambda form key body params lam q c) h.lam_at
