@@ -22,11 +22,11 @@ use Rattle.t_meaning.specs.Units.{defined_by, definition_in, definitions, first_
 use Rattle.cps_ir.specs.declared.args.Arg.{Arg}
 use Rattle.cps_ir.specs.declared.terms.Lam.{Lam}
 use Rattle.cps_ir.specs.declared.terms.Term.{Term}
-use Rattle.cps_walk.specs.Walks.{own_places, lambda_places, part_places}
-use Rattle.cps_ir.specs.Parts.{Part, own_parts, root_lams, first_lams, lams_of}
+use Rattle.cps_walk.specs.Walks.{root_places, own_places, lambda_places, part_places}
+use Rattle.cps_ir.specs.Parts.{Part, own_parts, root_lams, lambda_at, lambdas_of, first_lams, lams_of}
 use Rattle.cps_ir.specs.Whole.{HasNames, IsLambda, most_operands, IsShaped, IsArgThere, IsArgShaped}
 use Rattle.cps_ir.specs.Terms.{args_of}
-use Rattle.cps_ir.proofs.ProperLists.{none_some, all_at, each_more, each_of_two, each_right, each_of_all, all_head}
+use Rattle.cps_ir.proofs.ProperLists.{each_found, each_left, each_taken, none_some, all_at, each_more, each_of_two, each_right, each_of_all, all_head}
 use Rattle.cps_ir.proofs.Closed.{all_of_each, same_number}
 use Rattle.cps_conversion.specs.Conversion.{Translation, IsTranslated}
 use Rattle.cps_order.specs.Order.{one, tally}
@@ -212,10 +212,32 @@ module _ (x : Translation) (w : IsWholeUnit x.unit) (small : limit_of x.unit ≡
       each_more (λ (p : Part). p.at < t) (λ (p : Part). p.at < length x.cps.terms.items) (own_parts [] term) (λ p h. omega (arith, h, within))
       (each_mapped (λ u. u < t) (λ (p : Part). p.at) (own_parts [] term) (each_right (λ u. u < t) (lambda_places x.cps term) (own_places term) (each_of_all (λ u. u < t) (part_places x.cps term) (owed.ordered.lower t term e))))
 
+  parts_below : (t : ℕ) (term : Term) → slice_get x.cps.terms.items t ≡ Some term → AllByRecursion (λ u. u < length x.cps.terms.items) (part_places x.cps term)
+  parts_below t term e =
+      let within = slice_get_within x.cps.terms.items t term e in
+      each_more (λ u. u < t) (λ u. u < length x.cps.terms.items) (part_places x.cps term) (λ u h. omega (arith, h, within)) (each_of_all (λ u. u < t) (part_places x.cps term) (owed.ordered.lower t term e))
+
+  named_body : (t : ℕ) (term : Term) (l : ℕ) (lam : Lam) → slice_get x.cps.terms.items t ≡ Some term → 1 ≤ tally (lams_of term) l → lambda_at x.cps l ≡ Some lam → lam.body < length x.cps.terms.items
+  named_body t term l lam e h q =
+      tallied (λ m. (z : Lam) → lambda_at x.cps m ≡ Some z → z.body < length x.cps.terms.items) (lams_of term) l
+      (each_found (lambda_at x.cps) (λ (z : Lam). z.body < length x.cps.terms.items) (lams_of term)
+      (each_mapped (λ u. u < length x.cps.terms.items) (λ (z : Lam). z.body) (lambdas_of x.cps term) (each_left (λ u. u < length x.cps.terms.items) (lambda_places x.cps term) (own_places term) (parts_below t term e)))) h lam q
+
+  body_there : (l : ℕ) (lam : Lam) → slice_get x.cps.lams.items l ≡ Some lam → lam.body < length x.cps.terms.items
+  body_there l lam e = elim (cases_lt l (first_lams x.cps)) [
+    | inl low ↦ each_taken (λ u. u < length x.cps.terms.items) (λ (z : Lam). z.body) (first_lams x.cps) x.cps.lams.items l lam (each_of_all (λ u. u < length x.cps.terms.items) (root_places x.cps) owed.ordered.roots).1 low e
+    | inr high ↦ named (nat_lt l (first_lams x.cps)) refl (omega (arith, high)) (owed.lams_once l (slice_get_within x.cps.lams.items l lam e))
+  ]
+    where
+      named : (b : Bool) → nat_lt l (first_lams x.cps) ≡ b → first_lams x.cps ≤ l → tally (named_lams x.cps) l ≡ one (not b) → lam.body < length x.cps.terms.items
+      named false q le h = let r = flat_some lams_of x.cps.terms.items l (omega (arith, h)) in named_body r.0 r.1 l lam r.2 r.3 (ap (λ b. if b then None else slice_get x.cps.lams.items l) q ∙ e)
+      named true q le h = let lt = ltb-true l (first_lams x.cps) q in absurd (omega (arith, lt, le))
+
   is_shaped : AreShaped x.cps
   is_shaped = record {
     names = listed (HasNames x.cps) x.cps.terms.items (λ t term e. let f = (term_fine t term e).0 in record { args = all_of_each (IsArgThere x.cps.shared) (args_of term) (each_more A (IsArgThere x.cps.shared) (args_of term) (λ a h. h.0) f.2); names = f.0; terms = all_of_each (λ (p : Part). p.at < length x.cps.terms.items) (own_parts [] term) (parts_there t term e); lams = all_of_each (IsLambda x.cps) (lams_of term) (lambdas_fine t term e) });
     entry = all_head (λ u. u < length x.cps.terms.items) x.cps.entry (map (λ (lam : Lam). lam.body) (root_lams x.cps)) owed.ordered.roots;
+    bodies = listed (λ (lam : Lam). lam.body < length x.cps.terms.items) x.cps.lams.items body_there;
     terms = listed (IsShaped x.cps) x.cps.terms.items (λ t term e. let f = (term_fine t term e).0 in record { args = all_of_each (IsArgShaped x.cps.shared) (args_of term) (each_more A (IsArgShaped x.cps.shared) (args_of term) (λ a h. h.1) f.2); lists = f.1 });
     parameters = listed (λ (lam : Lam). length lam.params ≤ most_operands) x.cps.lams.items lam_fine;
   }

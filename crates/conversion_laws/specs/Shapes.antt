@@ -11,6 +11,7 @@ use Rattle.conversion_laws.specs.Owed.{IsOwed}
 -- of all terms and procedures of the program
 pub record AreShaped (cps : Cps) : Type 0 where
   pub entry : cps.entry < length cps.terms.items
+  pub bodies : All (λ lam. lam.body < length cps.terms.items) cps.lams.items
   pub names : All (HasNames cps) cps.terms.items
   pub terms : All (IsShaped cps) cps.terms.items
   pub parameters : All (λ lam. length lam.params ≤ most_operands) cps.lams.items
