@@ -80,11 +80,11 @@ module _ (x : Translation) (A : Arg → Type 0) (P : Term → Type 0) (R : Lam �
     pub default : (o : ℕ) (f : Procedure) (lam : Lam) → default_of x.unit o ≡ Some f → length lam.params ≡ length f.params → R lam
 
   abbrev GoodLam : ℕ → Type 0
-  GoodLam l = (lam : Lam) → slice_get x.cps.lams.items l ≡ Some lam → R lam × Good x A P R lam.body
+  GoodLam l = (l < length x.cps.lams.items) × ((lam : Lam) → slice_get x.cps.lams.items l ≡ Some lam → R lam × Good x A P R lam.body)
 
   module _ (T : Table x A P R) (F : FormTable x A P R) (Q : RootTable) (tr : IsTranslated x) where
     root_good : (f : Procedure) (c : Closure) → ((lam : Lam) → length lam.params ≡ length f.params → R lam) → RootAs x (ConvertsWithin x tr.depth) f c → GoodLam c.lam
-    root_good f c r h = (lam_good x A P R T tr.depth (within_good x A P R T tr.depth) f.form [] f.params f.body c.lam r h).1
+    root_good f c r h = lam_good x A P R T tr.depth (within_good x A P R T tr.depth) f.form [] f.params f.body c.lam r h
 
     global_root : (fs : List Procedure) (cs : List Closure) (i : ℕ) (c : Closure) → ((i : ℕ) (f : Procedure) (lam : Lam) → slice_get fs i ≡ Some f → length lam.params ≡ length f.params → R lam) → slice_get cs i ≡ Some c → RootsAs x (ConvertsWithin x tr.depth) fs cs → GoodLam c.lam
     global_root [] [] i c r e h = none_some c e
@@ -121,7 +121,7 @@ module _ (x : Translation) (A : Arg → Type 0) (P : Term → Type 0) (R : Lam �
     roots_good : AllByRecursion (λ p. Good x A P R p.at) (root_parts x.cps)
     roots_good = (
       forms_good x A P R T F tr.depth 0 x.unit.forms.items (Argument.Const Constant.Nil) x.cps.entry (λ i f e. subst (λ n. slice_get x.unit.forms.items n ≡ Some f) (sym (zero_plus i)) e) (T.nil, tt) tr.forms,
-      lams_first (first_lams x.cps) x.cps.lams.items (λ l lam lt e. (first_good l lt lam e).1),
+      lams_first (first_lams x.cps) x.cps.lams.items (λ l lam lt e. ((first_good l lt).1 lam e).1),
     )
 
     walked_full : AllByRecursion (FullAt x A P R) (walked x.cps)

@@ -169,7 +169,7 @@ module _ (x : Translation) (w : IsWholeUnit x.unit) (small : limit_of x.unit ≡
   -- a procedure that isn't named by a term is a global's or an operation's
   lam_fine : (l : ℕ) (lam : Lam) → slice_get x.cps.lams.items l ≡ Some lam → R lam
   lam_fine l lam e = elim (cases_lt l (first_lams x.cps)) [
-    | inl low ↦ (first_good x A P R table form_table root_table tr l low lam e).0
+    | inl low ↦ ((first_good x A P R table form_table root_table tr l low).1 lam e).0
     | inr high ↦ named (nat_lt l (first_lams x.cps)) refl (omega (arith, high)) (owed.lams_once l (slice_get_within x.cps.lams.items l lam e))
   ]
     where
@@ -233,10 +233,18 @@ module _ (x : Translation) (w : IsWholeUnit x.unit) (small : limit_of x.unit ≡
       named false q le h = let r = flat_some lams_of x.cps.terms.items l (omega (arith, h)) in named_body r.0 r.1 l lam r.2 r.3 (ap (λ b. if b then None else slice_get x.cps.lams.items l) q ∙ e)
       named true q le h = let lt = ltb-true l (first_lams x.cps) q in absurd (omega (arith, lt, le))
 
+  firsts_there : first_lams x.cps ≤ length x.cps.lams.items
+  firsts_there = by (first_lams x.cps) (λ l lt. (first_good x A P R table form_table root_table tr l lt).0)
+    where
+      by : (n : ℕ) → ((l : ℕ) → l < n → l < length x.cps.lams.items) → n ≤ length x.cps.lams.items
+      by zero f = omega arith
+      by (suc n) f = let h = f n (omega arith) in omega (arith, h)
+
   is_shaped : AreShaped x.cps
   is_shaped = record {
     names = listed (HasNames x.cps) x.cps.terms.items (λ t term e. let f = (term_fine t term e).0 in record { args = all_of_each (IsArgThere x.cps.shared) (args_of term) (each_more A (IsArgThere x.cps.shared) (args_of term) (λ a h. h.0) f.2); names = f.0; terms = all_of_each (λ (p : Part). p.at < length x.cps.terms.items) (own_parts [] term) (parts_there t term e); lams = all_of_each (IsLambda x.cps) (lams_of term) (lambdas_fine t term e) });
     entry = all_head (λ u. u < length x.cps.terms.items) x.cps.entry (map (λ (lam : Lam). lam.body) (root_lams x.cps)) owed.ordered.roots;
+    firsts = firsts_there;
     bodies = listed (λ (lam : Lam). lam.body < length x.cps.terms.items) x.cps.lams.items body_there;
     terms = listed (IsShaped x.cps) x.cps.terms.items (λ t term e. let f = (term_fine t term e).0 in record { args = all_of_each (IsArgShaped x.cps.shared) (args_of term) (each_more A (IsArgShaped x.cps.shared) (args_of term) (λ a h. h.1) f.2); lists = f.1 });
     parameters = listed (λ (lam : Lam). length lam.params ≤ most_operands) x.cps.lams.items lam_fine;

@@ -4,6 +4,7 @@ use Rattle.t_core.specs.declared.forms.UnitCore.{UnitCore}
 use Rattle.t_core.specs.Limits.{limit_of}
 use Rattle.t_core.specs.Whole.{IsWhole as IsWholeUnit}
 use Rattle.cps_ir.specs.declared.terms.Cps.{Cps}
+use Rattle.cps_ir.specs.Parts.{first_lams}
 use Rattle.cps_ir.specs.Whole.{HasNames, IsShaped, most_operands}
 use Rattle.cps_conversion.specs.Conversion.{Converts}
 use Rattle.conversion_laws.specs.Owed.{IsOwed}
@@ -11,6 +12,7 @@ use Rattle.conversion_laws.specs.Owed.{IsOwed}
 -- of all terms and procedures of the program
 pub record AreShaped (cps : Cps) : Type 0 where
   pub entry : cps.entry < length cps.terms.items
+  pub firsts : first_lams cps ≤ length cps.lams.items
   pub bodies : All (λ lam. lam.body < length cps.terms.items) cps.lams.items
   pub names : All (HasNames cps) cps.terms.items
   pub terms : All (IsShaped cps) cps.terms.items
