@@ -7,6 +7,7 @@ use Rattle.std.proofs.lemmas.Bool.{cases_lt, ltb-true, ltb-false}
 use Rattle.std.proofs.lemmas.Option.{slice_get-get_or, slice_get_within}
 use Rattle.t_base.specs.declared.shared_parts.Global1.{Global1}
 use Rattle.t_base.specs.declared.shared_parts.Shared.{Shared}
+use Rattle.t_prim.specs.SharedParts.{IsWholeShared}
 use Rattle.t_core.specs.declared.forms.Core.{Core}
 use Rattle.t_core.specs.declared.forms.Core.TheVariants as Node
 use Rattle.t_core.specs.declared.forms.Form.{Form}
@@ -187,9 +188,9 @@ module _ (x : Translation) (w : IsWholeUnit x.unit) (small : limit_of x.unit ≡
   each_tallied : (ls : List ℕ) → AllByRecursion (λ l. 1 ≤ tally ls l) ls
   each_tallied [] = tt
   each_tallied (l ∷ ls) = (
-      subst (λ b. 1 ≤ one b + tally ls l) (sym (same_number l l refl)) (omega arith),
-      each_more (λ m. 1 ≤ tally ls m) (λ m. 1 ≤ tally (l ∷ ls) m) ls (λ m h. omega (arith, h)) (each_tallied ls)
-    )
+    subst (λ b. 1 ≤ one b + tally ls l) (sym (same_number l l refl)) (omega arith),
+    each_more (λ m. 1 ≤ tally ls m) (λ m. 1 ≤ tally (l ∷ ls) m) ls (λ m h. omega (arith, h)) (each_tallied ls),
+  )
 
   -- a procedure that a term names is none of a global or an operation
   behind : (t : ℕ) (term : Term) (l : ℕ) → slice_get x.cps.terms.items t ≡ Some term → 1 ≤ tally (lams_of term) l → l < length x.cps.lams.items → first_lams x.cps ≤ l
@@ -244,6 +245,7 @@ module _ (x : Translation) (w : IsWholeUnit x.unit) (small : limit_of x.unit ≡
   is_shaped = record {
     names = listed (HasNames x.cps) x.cps.terms.items (λ t term e. let f = (term_fine t term e).0 in record { args = all_of_each (IsArgThere x.cps.shared) (args_of term) (each_more A (IsArgThere x.cps.shared) (args_of term) (λ a h. h.0) f.2); names = f.0; terms = all_of_each (λ (p : Part). p.at < length x.cps.terms.items) (own_parts [] term) (parts_there t term e); lams = all_of_each (IsLambda x.cps) (lams_of term) (lambdas_fine t term e) });
     entry = all_head (λ u. u < length x.cps.terms.items) x.cps.entry (map (λ (lam : Lam). lam.body) (root_lams x.cps)) owed.ordered.roots;
+    shared = subst IsWholeShared (sym tr.shared) w.shared.parts;
     firsts = firsts_there;
     bodies = listed (λ (lam : Lam). lam.body < length x.cps.terms.items) x.cps.lams.items body_there;
     terms = listed (IsShaped x.cps) x.cps.terms.items (λ t term e. let f = (term_fine t term e).0 in record { args = all_of_each (IsArgShaped x.cps.shared) (args_of term) (each_more A (IsArgShaped x.cps.shared) (args_of term) (λ a h. h.1) f.2); lists = f.1 });

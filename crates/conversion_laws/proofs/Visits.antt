@@ -241,14 +241,14 @@ module _ (x : Translation) (A : Arg → Type 0) (P : Term → Type 0) (R : Lam �
     -- a procedure has as many parameters as it stands for, and its body is good
     pub lam_good : (form : ℕ) (bound : List ℕ) (params : List Var) (body l : ℕ) → ((lam : Lam) → length lam.params ≡ length params → R lam) → LamAt x conv form bound params body l → GoodLam l
     lam_good form bound params body l f h = (
-        slice_get_within x.cps.lams.items l h.0 h.1,
-        λ lam e.
-        subst (λ z. R z × Good z.body) (some_same h.0 lam (sym h.1 ∙ e)) (
-          f h.0 (sym (variables_count h.0.params) ∙ assigned_count (adding h.0.params bound) params (variables h.0.params) h.0.body h.2.start h.2.assigned),
-          assigned_good T (adding h.0.params bound) params (variables h.0.params) h.0.body h.2.start (variables_good T h.0.params)
-              (go form (adding params bound) (adding params bound) body (Continuation.Var h.0.k) h.2.start tt h.2.body_as) h.2.assigned,
-        )
-      )
+      slice_get_within x.cps.lams.items l h.0 h.1,
+      λ lam e.
+          subst (λ z. R z × Good z.body) (some_same h.0 lam (sym h.1 ∙ e)) (
+            f h.0 (sym (variables_count h.0.params) ∙ assigned_count (adding h.0.params bound) params (variables h.0.params) h.0.body h.2.start h.2.assigned),
+            assigned_good T (adding h.0.params bound) params (variables h.0.params) h.0.body h.2.start (variables_good T h.0.params)
+                (go form (adding params bound) (adding params bound) body (Continuation.Var h.0.k) h.2.start tt h.2.body_as) h.2.assigned,
+          ),
+    )
 
     lambda_good : (form key : ℕ) (bound : List ℕ) (params : List Var) (body l : ℕ) → node_at x.unit form key ≡ Some (Node.Lambda params body) → LambdaAt x conv form bound key params body l → GoodLam l
     lambda_good form key bound params body l q h = lam_good form bound params body l (λ lam c. T.lambda form key body params lam q c) h.lam_at

@@ -1,5 +1,6 @@
 -- What terms name is there, and lists agree.
 use Rattle.std.specs.Prelude.{◌≡◌, ◌<◌, ◌≤◌, length, All, Ok}
+use Rattle.t_prim.specs.SharedParts.{IsWholeShared}
 use Rattle.t_core.specs.declared.forms.UnitCore.{UnitCore}
 use Rattle.t_core.specs.Limits.{limit_of}
 use Rattle.t_core.specs.Whole.{IsWhole as IsWholeUnit}
@@ -11,6 +12,7 @@ use Rattle.conversion_laws.specs.Owed.{IsOwed}
 
 -- of all terms and procedures of the program
 pub record AreShaped (cps : Cps) : Type 0 where
+  pub shared : IsWholeShared cps.shared
   pub entry : cps.entry < length cps.terms.items
   pub firsts : first_lams cps ≤ length cps.lams.items
   pub bodies : All (λ lam. lam.body < length cps.terms.items) cps.lams.items
