@@ -3,4 +3,5 @@ pub mod Roots
 pub mod Plain
 pub mod Widths
 pub mod Shapes
+pub mod Defaults
 pub mod Shaped

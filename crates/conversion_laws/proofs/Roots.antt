@@ -19,7 +19,7 @@ use Rattle.cps_ir.specs.Calls.{default_of as cps_default_of, default_at}
 use Rattle.cps_ir.specs.Running.{start as cps_start, first_closures}
 use Rattle.cps_ir.specs.Parts.{is_procedure, lambda_part, global_lams, first_lams, root_parts, depth_of, walked, walked_within}
 use Rattle.cps_ir.proofs.ProperLists.{some_same, none_some, each_more, each_joined}
-use Rattle.cps_conversion.specs.Conversion.{Translation, Stands, ConvertsWithin, RootAs, RootsAs, DefaultAs, IsTranslated}
+use Rattle.cps_conversion.specs.Conversion.{Translation, Stands, ConvertsWithin, RootAs, RootsAs, DefaultAs, LamAt, IsTranslated}
 use Rattle.cps_order.specs.Order.{one, tally, IsOrdered}
 use Rattle.cps_order.proofs.Reached.{all_walked}
 use Rattle.conversion_laws.proofs.Visits.{Table, FormTable, Full, FullAt, Good, lam_good, within_good, forms_good}
@@ -112,6 +112,32 @@ module _ (x : Translation) (A : Arg → Type 0) (P : Term → Type 0) (R : Lam �
             (default_root (default_of x.unit r.at) (cps_default_of x.cps r.at) (record { lam = global_lams x.cps + j; scope = [] }) (λ f lam. Q.default r.at f lam)
             (ap (λ o. option_map_or (default_at x.cps r.at) o None) r.there ∙ ap (λ b. if b then Some (record { lam = global_lams x.cps + length (filter has_default (take r.at x.cps.shared.ops.items)); scope = [] }) else None) r.has ∙ ap (λ n. Some (record { lam = global_lams x.cps + n; scope = [] })) r.before)
             (tr.defaults r.at))
+
+    -- the default of an operation stands for the procedure that the unit has for it
+    pub record DefaultAt (l : ℕ) : Type 0 where
+      pub at : ℕ
+      pub info : OpInfo
+      pub f : Procedure
+      pub there : slice_get x.cps.shared.ops.items at ≡ Some info
+      pub has : info.default ≡ true
+      pub is : default_of x.unit at ≡ Some f
+      pub as_root : LamAt x (ConvertsWithin x tr.depth) f.form [] f.params f.body l
+
+    procedure_found : (p : Option Procedure) (q : Option Closure) (c : Closure) → q ≡ Some c → DefaultAs x (ConvertsWithin x tr.depth) p q → (f : Procedure) × (p ≡ Some f) × RootAs x (ConvertsWithin x tr.depth) f c
+    procedure_found None None c e h = none_some c e
+    procedure_found (Some f) (Some d) c e h = (f, refl, subst (RootAs x (ConvertsWithin x tr.depth) f) (some_same d c e) h)
+    procedure_found None (Some d) c e h = absurd h
+    procedure_found (Some f) None c e h = absurd h
+
+    pub default_found : (l : ℕ) → global_lams x.cps ≤ l → l < first_lams x.cps → DefaultAt l
+    default_found l le lt = let j = gap (global_lams x.cps) l le in behind l j.0 j.1 (ranked x.cps.shared.ops.items j.0 (omega (arith, lt, j.1)))
+      where
+        behind : (l j : ℕ) → l ≡ global_lams x.cps + j → Ranked x.cps.shared.ops.items j → DefaultAt l
+        behind l j e r =
+            let p = procedure_found (default_of x.unit r.at) (cps_default_of x.cps r.at) (record { lam = global_lams x.cps + j; scope = [] })
+            (ap (λ o. option_map_or (default_at x.cps r.at) o None) r.there ∙ ap (λ b. if b then Some (record { lam = global_lams x.cps + length (filter has_default (take r.at x.cps.shared.ops.items)); scope = [] }) else None) r.has ∙ ap (λ n. Some (record { lam = global_lams x.cps + n; scope = [] })) r.before)
+            (tr.defaults r.at) in
+            subst DefaultAt (sym e) (record { at = r.at; info = r.info; f = p.0; there = r.there; has = r.has; is = p.1; as_root = p.2 })
 
     lams_first : (n : ℕ) (lams : List Lam) → ((l : ℕ) (lam : Lam) → l < n → slice_get lams l ≡ Some lam → Good x A P R lam.body) → AllByRecursion (λ p. Good x A P R p.at) (map (lambda_part []) (take n lams))
     lams_first zero lams f = tt

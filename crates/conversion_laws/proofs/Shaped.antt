@@ -2,7 +2,7 @@
 use Rattle.std.specs.List.{AllByRecursion}
 use Rattle.std.specs.Prelude.{nat_lt, not, All, IsSomeAnd, Ok}
 use Rattle.std.specs.Option.{option_and_then}
-use Rattle.std.proofs.Common.{◌≡◌, ℕ, zero, suc, ◌+◌, ◌≤◌, ◌<◌, Bool, true, false, if◌then◌else◌, ◌⊎◌, inl, inr, List, [], ◌∷◌, length, Option, Some, None, slice_get, get_or, refl, sym, ap, ◌∙◌, subst, arith, map}
+use Rattle.std.proofs.Common.{◌≡◌, ℕ, zero, suc, ◌+◌, ◌≤◌, ◌<◌, Bool, true, false, if◌then◌else◌, ◌⊎◌, inl, inr, List, [], ◌∷◌, length, Option, Some, None, slice_get, get_or, refl, sym, ap, ◌∙◌, subst, arith, map, take, drop}
 use Rattle.std.proofs.lemmas.Bool.{cases_lt, ltb-true, ltb-false}
 use Rattle.std.proofs.lemmas.Option.{slice_get-get_or, slice_get_within}
 use Rattle.t_base.specs.declared.shared_parts.Global1.{Global1}
@@ -24,18 +24,19 @@ use Rattle.cps_ir.specs.declared.args.Arg.{Arg}
 use Rattle.cps_ir.specs.declared.terms.Lam.{Lam}
 use Rattle.cps_ir.specs.declared.terms.Term.{Term}
 use Rattle.cps_walk.specs.Walks.{root_places, own_places, lambda_places, part_places}
-use Rattle.cps_ir.specs.Parts.{Part, own_parts, root_lams, lambda_at, lambdas_of, first_lams, lams_of}
+use Rattle.cps_ir.specs.Parts.{global_lams, Part, own_parts, root_lams, lambda_at, lambdas_of, first_lams, lams_of}
 use Rattle.cps_ir.specs.Whole.{HasNames, IsLambda, most_operands, IsShaped, IsArgThere, IsArgShaped}
 use Rattle.cps_ir.specs.Terms.{args_of}
-use Rattle.cps_ir.proofs.ProperLists.{each_found, each_left, each_taken, none_some, all_at, each_more, each_of_two, each_right, each_of_all, all_head}
+use Rattle.cps_ir.proofs.ProperLists.{some_same, each_found, each_left, each_taken, none_some, all_at, each_more, each_of_two, each_right, each_of_all, all_head}
 use Rattle.cps_ir.proofs.Closed.{all_of_each, same_number}
-use Rattle.cps_conversion.specs.Conversion.{Translation, IsTranslated}
+use Rattle.cps_conversion.specs.Conversion.{Translation, IsTranslated, variables, adding}
 use Rattle.cps_order.specs.Order.{one, tally}
 use Rattle.cps_order.proofs.Reached.{flat_some, flat_has}
 use Rattle.conversion_laws.specs.Owed.{IsOwed, named_lams}
 use Rattle.conversion_laws.specs.Shapes.{AreShaped, ConvertedIsShaped}
-use Rattle.conversion_laws.proofs.Visits.{Table, FormTable, LamIs, Full}
-use Rattle.conversion_laws.proofs.Roots.{RootTable, tallied, first_good, all_full}
+use Rattle.conversion_laws.proofs.Visits.{Table, FormTable, LamIs, Full, variables_count, assigned_count}
+use Rattle.conversion_laws.proofs.Roots.{RootTable, tallied, first_good, default_found, all_full}
+use Rattle.conversion_laws.proofs.Defaults.{default_self}
 use Rattle.conversion_laws.proofs.Widths.{node_narrow}
 use Rattle.conversion_laws.proofs.Shapes.{FineArg, FineTerm, FineLam, no_proc, fine_table}
 
@@ -241,6 +242,28 @@ module _ (x : Translation) (w : IsWholeUnit x.unit) (small : limit_of x.unit ≡
       by zero f = omega arith
       by (suc n) f = let h = f n (omega arith) in omega (arith, h)
 
+  taken_there : (n : ℕ) (lams : List Lam) (i : ℕ) (lam : Lam) → slice_get (take n lams) i ≡ Some lam → (slice_get lams i ≡ Some lam) × (i < n)
+  taken_there zero lams i lam e = none_some lam e
+  taken_there (suc n) [] i lam e = none_some lam e
+  taken_there (suc n) (l ∷ lams) zero lam e = (e, omega arith)
+  taken_there (suc n) (l ∷ lams) (suc i) lam e = let r = taken_there n lams i lam e in let lt = r.1 in (r.0, omega (arith, lt))
+
+  dropped_there : (g : ℕ) (lams : List Lam) (i : ℕ) (lam : Lam) → slice_get (drop g lams) i ≡ Some lam → (j : ℕ) × (j ≡ g + i) × (slice_get lams j ≡ Some lam)
+  dropped_there zero lams i lam e = (i, omega arith, e)
+  dropped_there (suc g) [] i lam e = none_some lam e
+  dropped_there (suc g) (l ∷ lams) i lam e = let r = dropped_there g lams i lam e in let q = r.1 in (suc r.0, omega (arith, q), r.2)
+
+  default_fine : (i : ℕ) (lam : Lam) → slice_get (drop (global_lams x.cps) (take (first_lams x.cps) x.cps.lams.items)) i ≡ Some lam → 0 < length lam.params
+  default_fine i lam e =
+      let d = dropped_there (global_lams x.cps) (take (first_lams x.cps) x.cps.lams.items) i lam e in
+      let t = taken_there (first_lams x.cps) x.cps.lams.items d.0 lam d.2 in
+      let at_j = d.1 in
+      let r = default_found x A P R table form_table root_table tr d.0 (omega (arith, at_j)) t.1 in
+      let self = default_self x.unit.shared r.at 0 r.info x.unit.forms.items r.f (subst (λ (s : Shared). slice_get s.ops.items r.at ≡ Some r.info) tr.shared r.there) r.has w.definitions.forms r.is in
+      let z = r.as_root in
+      let count : length z.0.params ≡ length r.f.params = sym (variables_count x A P R z.0.params) ∙ assigned_count x A P R (adding z.0.params []) r.f.params (variables z.0.params) z.0.body z.2.start z.2.assigned in
+      subst (λ (m : Lam). 0 < length m.params) (some_same z.0 lam (sym z.1 ∙ t.0)) (omega (arith, self, count))
+
   is_shaped : AreShaped x.cps
   is_shaped = record {
     names = listed (HasNames x.cps) x.cps.terms.items (λ t term e. let f = (term_fine t term e).0 in record { args = all_of_each (IsArgThere x.cps.shared) (args_of term) (each_more A (IsArgThere x.cps.shared) (args_of term) (λ a h. h.0) f.2); names = f.0; terms = all_of_each (λ (p : Part). p.at < length x.cps.terms.items) (own_parts [] term) (parts_there t term e); lams = all_of_each (IsLambda x.cps) (lams_of term) (lambdas_fine t term e) });
@@ -248,8 +271,11 @@ module _ (x : Translation) (w : IsWholeUnit x.unit) (small : limit_of x.unit ≡
     shared = subst IsWholeShared (sym tr.shared) w.shared.parts;
     firsts = firsts_there;
     bodies = listed (λ (lam : Lam). lam.body < length x.cps.terms.items) x.cps.lams.items body_there;
+    shapes = record {
     terms = listed (IsShaped x.cps) x.cps.terms.items (λ t term e. let f = (term_fine t term e).0 in record { args = all_of_each (IsArgShaped x.cps.shared) (args_of term) (each_more A (IsArgShaped x.cps.shared) (args_of term) (λ a h. h.1) f.2); lists = f.1 });
     parameters = listed (λ (lam : Lam). length lam.params ≤ most_operands) x.cps.lams.items lam_fine;
+      defaults = listed (λ (lam : Lam). 0 < length lam.params) (drop (global_lams x.cps) (take (first_lams x.cps) x.cps.lams.items)) default_fine;
+    };
   }
 
 pub converted_is_shaped : ConvertedIsShaped

@@ -184,14 +184,14 @@ module _ (x : Translation) (A : Arg → Type 0) (P : Term → Type 0) (R : Lam �
   variables_good T [] = tt
   variables_good T (v ∷ vars) = (var_good T v, variables_good T vars)
 
-  assigned_count : (held : List ℕ) (vars : List Var) (args : List Arg) (t next : ℕ) → Assigned x held vars args t next → length args ≡ length vars
+  pub assigned_count : (held : List ℕ) (vars : List Var) (args : List Arg) (t next : ℕ) → Assigned x held vars args t next → length args ≡ length vars
   assigned_count held [] [] t next h = refl
   assigned_count held (v ∷ vars) (a ∷ args) t next (inl h) = ap suc (assigned_count held vars args t next h.2)
   assigned_count held (v ∷ vars) (a ∷ args) t next (inr h) = ap suc (assigned_count (v.0 ∷ held) vars args h.2.0 next h.2.2)
   assigned_count held [] (a ∷ args) t next h = absurd h
   assigned_count held (v ∷ vars) [] t next h = absurd h
 
-  variables_count : (vars : List Var) → length (variables vars) ≡ length vars
+  pub variables_count : (vars : List Var) → length (variables vars) ≡ length vars
   variables_count [] = refl
   variables_count (v ∷ vars) = ap suc (variables_count vars)
 

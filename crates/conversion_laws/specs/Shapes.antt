@@ -6,7 +6,7 @@ use Rattle.t_core.specs.Limits.{limit_of}
 use Rattle.t_core.specs.Whole.{IsWhole as IsWholeUnit}
 use Rattle.cps_ir.specs.declared.terms.Cps.{Cps}
 use Rattle.cps_ir.specs.Parts.{first_lams}
-use Rattle.cps_ir.specs.Whole.{HasNames, IsShaped, most_operands}
+use Rattle.cps_ir.specs.Whole.{HasNames, HasShapes}
 use Rattle.cps_conversion.specs.Conversion.{Converts}
 use Rattle.conversion_laws.specs.Owed.{IsOwed}
 
@@ -17,8 +17,7 @@ pub record AreShaped (cps : Cps) : Type 0 where
   pub firsts : first_lams cps ≤ length cps.lams.items
   pub bodies : All (λ lam. lam.body < length cps.terms.items) cps.lams.items
   pub names : All (HasNames cps) cps.terms.items
-  pub terms : All (IsShaped cps) cps.terms.items
-  pub parameters : All (λ lam. length lam.params ≤ most_operands) cps.lams.items
+  pub shapes : HasShapes cps
 
 abbrev pub ConvertedIsShaped : Type 0
 ConvertedIsShaped = (unit : UnitCore) (cps : Cps) → IsWholeUnit unit → limit_of unit ≡ Ok tt → Converts unit cps → IsOwed cps → AreShaped cps

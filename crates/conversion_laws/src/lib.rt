@@ -15,8 +15,9 @@ pub fn no_catch_is_made()
     ensures { NoCatchIsMade }
 {}
 
-/// In a program that stands for a whole unit within its limits, what a term names in the shared parts is there, lists agree with what names
-/// them, and no procedure has more than twenty parameters.
+/// In a program that stands for a whole unit within its limits, what is named is there, LAMBDAs stand behind the procedures of globals and
+/// operations, lists agree, calls and procedures have at most twenty operands and parameters, a default has its self parameter, and the
+/// shared parts are whole.
 pub fn converted_is_shaped()
     ensures { ConvertedIsShaped }
 {}
