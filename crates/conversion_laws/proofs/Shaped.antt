@@ -272,8 +272,8 @@ module _ (x : Translation) (w : IsWholeUnit x.unit) (small : limit_of x.unit ≡
     firsts = firsts_there;
     bodies = listed (λ (lam : Lam). lam.body < length x.cps.terms.items) x.cps.lams.items body_there;
     shapes = record {
-    terms = listed (IsShaped x.cps) x.cps.terms.items (λ t term e. let f = (term_fine t term e).0 in record { args = all_of_each (IsArgShaped x.cps.shared) (args_of term) (each_more A (IsArgShaped x.cps.shared) (args_of term) (λ a h. h.1) f.2); lists = f.1 });
-    parameters = listed (λ (lam : Lam). length lam.params ≤ most_operands) x.cps.lams.items lam_fine;
+      terms = listed (IsShaped x.cps) x.cps.terms.items (λ t term e. let f = (term_fine t term e).0 in record { args = all_of_each (IsArgShaped x.cps.shared) (args_of term) (each_more A (IsArgShaped x.cps.shared) (args_of term) (λ a h. h.1) f.2); lists = f.1 });
+      parameters = listed (λ (lam : Lam). length lam.params ≤ most_operands) x.cps.lams.items lam_fine;
       defaults = listed (λ (lam : Lam). 0 < length lam.params) (drop (global_lams x.cps) (take (first_lams x.cps) x.cps.lams.items)) default_fine;
     };
   }
