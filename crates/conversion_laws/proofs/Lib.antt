@@ -1,0 +1,7 @@
+pub mod Visits
+pub mod Roots
+pub mod Plain
+pub mod Widths
+pub mod Shapes
+pub mod Defaults
+pub mod Shaped

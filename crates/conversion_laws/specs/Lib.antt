@@ -1,1 +1,3 @@
 pub mod Owed
+pub mod Plain
+pub mod Shapes

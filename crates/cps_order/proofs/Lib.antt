@@ -1,3 +1,3 @@
 mod Names
-mod Reached
+pub mod Reached
 mod Marks
