@@ -44,7 +44,7 @@ fetched_more old mid new vars held more before after behind needs place from d t
   requests = rs ∙ f.requests;
   templates = ts ∙ f.templates;
   next = let k = f.next in omega (arith, k, n);
-  adds = adds_ops old mid new f.made (op ∷ []) f.adds (subst (λ zs. Adds mid new zs []) (sym (ap (λ o. bound_by (o ∷ [])) e ∙ get_binds from to place)) (adds_variable mid new to.0 rs ts is n));
+  adds = adds_ops old mid new f.made (op ∷ []) f.adds (subst (λ zs. Adds mid new zs []) (sym (ap (λ o. bound_by (o ∷ [])) e ∙ get_binds from to place)) (adds_variable mid new to.0 rs is n));
   fetches = λ apart less. subst (λ hs. Fetches (get_of from) apart (numbers needs) vars hs (f.made ++ op ∷ [])) (sym holds) (subst (λ o. Fetches (get_of from) apart (numbers needs) vars (((get_or needs place d).0, to.0) ∷ held) (f.made ++ o ∷ [])) (sym e)
       (fetches_more (get_of from) apart (numbers needs) vars held f.made (get_or needs place d).0 place to (f.fetches apart less)
       (slice_get-map (λ (x : Var). x.0) needs place ∙ ap (option_map (λ (x : Var). x.0)) (slice_get-get_or needs place d lt)) (unused_above mid.next to.0 held (omega (arith, is)) f.below) (more_differs apart to.0 (let k = f.next in omega (arith, less, k, is)))));

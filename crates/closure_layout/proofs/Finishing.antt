@@ -22,10 +22,10 @@ use Rattle.layout_tables.proofs.Growing.{grows_more, later}
 use Rattle.cps_ir.specs.Parts.{first_lams, is_assigned}
 use Rattle.frame_ir.specs.declared.forms.Frames.{Frames}
 use Rattle.std.specs.List.{AllByRecursion}
-use Rattle.cps_ir.proofs.ProperLists.{each_more}
+use Rattle.cps_ir.proofs.ProperLists.{each_append, each_at, each_more}
 use Rattle.frame_ir.specs.Parts.{arms_of}
-use Rattle.layout_tables.specs.Additions.{Adds, arms_from}
-use Rattle.layout_tables.proofs.Adding.{adds_none, adds_more}
+use Rattle.layout_tables.specs.Additions.{Adds, SeesBelow, arms_from}
+use Rattle.layout_tables.proofs.Adding.{adds_none, adds_more, sees_more}
 use Rattle.closure_layout.proofs.Rising.{arms_above}
 
 -- ---- the first codes
@@ -123,6 +123,13 @@ module _ (cps : Cps) (w : Tables) where
             let q = same_some (purpose_of w r) p (sym here ∙ subst (λ j. slice_get (purposes_of w new.requests.items) j ≡ Some p) same e) in
             record { block = b; is = subst (λ zs. slice_get zs k ≡ Some b) (sym pushed) (subst (λ j. slice_get (blocks ++ b ∷ []) j ≡ Some b) (s.count ∙ sym same) (at_end blocks b)); fits = subst (λ z. Ever w new (λ v. BlockFits cps v z b)) q laid.fits });
       }
+
+  -- what is asked for sees only variables that there are
+  pub blocks_see : (old work : Work) (blocks : List Block) (place : ℕ) (r : Request) → BlocksSoFar old work blocks place → AllByRecursion (SeesBelow old.next) old.requests.items → slice_get work.requests.items place ≡ Some r → SeesBelow work.next r
+  blocks_see old work blocks place r s first_ones e =
+      each_at (SeesBelow work.next) work.requests.items place r
+      (subst (AllByRecursion (SeesBelow work.next)) (sym s.adds.requests)
+      (each_append (SeesBelow work.next) old.requests.items s.adds.added (each_more (SeesBelow old.next) (SeesBelow work.next) old.requests.items (sees_more old.next work.next s.grows.next) first_ones) s.adds.sees)) e
 
   pub blocks_all : (old new : Work) (blocks : List Block) (place : ℕ) → BlocksSoFar old new blocks place → length new.requests.items ≤ place → AreLaid cps w old new blocks
   blocks_all old new blocks place s le = record {

@@ -119,7 +119,7 @@ laid_labels cps w old one mid new before after t body names lams tos last first 
   leads = record {
     grows = grows_more w old one new (grows_same w old one rs ts (omega (arith, next))) (grows_more w one mid new all.grows ends.grows);
     adds = adds_behind old one new (bound_by all.made) [] (arms_of last)
-        (subst (λ zs. Adds old one zs []) (sym (all.binds count)) (adds_bound old one (numbers tos) rs ts (subst (λ zs. Rises old.next zs one.next) (sym fresh) (rises_counted old.next (length lams) one.next (omega (arith, next))))))
+        (subst (λ zs. Adds old one zs []) (sym (all.binds count)) (adds_bound old one (numbers tos) rs (subst (λ zs. Rises old.next zs one.next) (sym fresh) (rises_counted old.next (length lams) one.next (omega (arith, next))))))
         (adds_more one mid new [] [] [] (arms_of last) all.adds ends.adds);
     below = subst (AreBelow new.next) (sym scope) (each_append (λ p. p.1 < new.next) (paired (numbers names) tos) before.scope
         (pairs_below (numbers names) tos old.next (length lams) new.next fresh (let a = all.next in let b = ends.next in omega (arith, a, b, next))) (below_more old.next new.next before.scope (let a = all.next in let b = ends.next in omega (arith, a, b, next)) below));

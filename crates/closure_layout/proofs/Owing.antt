@@ -1,8 +1,10 @@
 -- The whole layout, with what makes the frames whole.
-use Rattle.std.specs.Prelude.{◌≢◌, AllPairs, Contains}
+use Rattle.std.specs.Prelude.{◌≢◌, AllPairs, Contains, IsSomeAnd}
 use Rattle.std.specs.List.{AllByRecursion, flat_map}
-use Rattle.std.proofs.Common.{◌≡◌, ℕ, suc, ◌+◌, ◌<◌, ◌≤◌, false, List, [], ◌∷◌, ◌++◌, length, slice_get, Some, None, refl, sym, ap, subst, ◌∙◌, arith, All}
-use Rattle.std.proofs.lemmas.List.Elements.{All-from_recursion, All-nil}
+use Rattle.std.proofs.Common.{◌≡◌, ℕ, suc, ◌+◌, ◌<◌, ◌≤◌, false, List, [], ◌∷◌, ◌++◌, length, slice_get, Option, Some, None, refl, sym, ap, subst, ◌∙◌, arith, All}
+use Rattle.std.proofs.lemmas.List.Elements.{All-from_recursion}
+use Rattle.std.proofs.lemmas.Option.{slice_get_within}
+use Rattle.cps_ir.proofs.ProperLists.{each_more, each_joined}
 use Rattle.t_base.specs.declared.basics.Var.{Var}
 use Rattle.cps_ir.specs.declared.terms.Cps.{Cps}
 use Rattle.cps_ir.specs.Parts.{first_lams, is_assigned}
@@ -12,7 +14,7 @@ use Rattle.frame_ir.specs.declared.forms.Block.{Block}
 use Rattle.frame_ir.specs.declared.forms.Frames.{Frames}
 use Rattle.frame_ir.specs.declared.forms.Template.{Template}
 use Rattle.frame_ir.specs.Parts.{arms_of, all_arms, block_binds, method_codes}
-use Rattle.frame_ir.specs.Whole.{IsTemplate, HasParams, IsMethodCount}
+use Rattle.frame_ir.specs.Whole.{IsBlock, IsTemplate, HasParams, IsMethodCount}
 use Rattle.layout_relation.specs.Links.{IsIn, first, later}
 use Rattle.layout_relation.specs.Contexts.{Context, ArmOf}
 use Rattle.layout_relation.specs.Laid.{IsFor, IsLaidOut, AreDistinct}
@@ -22,9 +24,9 @@ use Rattle.layout_tables.specs.declared.requests.Work.{Work}
 use Rattle.layout_tables.specs.declared.requests.Request.TheVariants as For
 use Rattle.layout_tables.specs.Around.{Around}
 use Rattle.layout_tables.specs.Sketches.{lam_needs, purposes_of}
-use Rattle.layout_tables.specs.Additions.{Adds, Rises, arms_from}
+use Rattle.layout_tables.specs.Additions.{Adds, Rises, SeesBelow, arms_from}
 use Rattle.layout_tables.proofs.Adding.{adds_more}
-use Rattle.closure_layout.specs.Blocks.{AreLaid, StandFirst, IsLayout, bound_in, arms_in}
+use Rattle.closure_layout.specs.Blocks.{AreLaid, StandFirst, IsLayout, IsOpIn, IsWholeTemplate, bound_in, arms_in}
 use Rattle.closure_layout.proofs.Rising.{rising_apart, bound_blocks, arms_blocks, arms_distinct, arm_listed}
 use Rattle.closure_layout.proofs.Finishing.{laid_out}
 
@@ -38,19 +40,32 @@ BindOnce bs = AllPairs (λ x y. x ≢ y) (flat_map block_binds bs)
 plain : (k : ℕ) → 0 + k ≡ k
 plain k = omega arith
 
-no_templates : (p : Frames) → p.templates.items ≡ [] → AreTemplates p
-no_templates p e = record {
-  named = subst (All (IsTemplate p)) (sym e) (All-nil (IsTemplate p));
-  together = subst (All (λ (t : Template). length t.ops ≡ length t.codes)) (sym e) (All-nil (λ (t : Template). length t.ops ≡ length t.codes));
-  methods = subst (λ ts. All (HasParams p IsMethodCount) (flat_map (λ (t : Template). t.codes) ts)) (sym e) (All-nil (HasParams p IsMethodCount));
+block_there : (p : Frames) (k : ℕ) → HasParams p IsMethodCount k → IsBlock p k
+block_there p k h = by (slice_get p.blocks.items k) refl h
+  where
+    by : (o : Option Block) → slice_get p.blocks.items k ≡ o → IsSomeAnd o (λ (b : Block). IsMethodCount (length b.params)) → k < length p.blocks.items
+    by None e h = absurd h
+    by (Some b) e h = slice_get_within p.blocks.items k b e
+
+whole_templates : (p : Frames) → AllByRecursion (IsWholeTemplate p) p.templates.items → AreTemplates p
+whole_templates p h = record {
+  named = All-from_recursion (IsTemplate p) p.templates.items
+      (each_more (IsWholeTemplate p) (IsTemplate p) p.templates.items (λ t g. (All-from_recursion (IsOpIn p) t.ops g.ops, All-from_recursion (IsBlock p) t.codes (each_more (HasParams p IsMethodCount) (IsBlock p) t.codes (block_there p) g.codes))) h);
+  together = All-from_recursion (λ (t : Template). length t.ops ≡ length t.codes) p.templates.items (each_more (IsWholeTemplate p) (λ (t : Template). length t.ops ≡ length t.codes) p.templates.items (λ t g. g.together) h);
+  methods = All-from_recursion (HasParams p IsMethodCount) (method_codes p)
+      (each_joined (λ (t : Template). t.codes) (HasParams p IsMethodCount) p.templates.items (each_more (IsWholeTemplate p) (λ (t : Template). AllByRecursion (HasParams p IsMethodCount) t.codes) p.templates.items (λ t g. g.codes) h));
 }
+
+-- all that is asked for at first sees only variables that there are
+pub all_see : (zero two : Work) → zero.requests.items ≡ [] → Adds zero two [] [] → AllByRecursion (SeesBelow two.next) two.requests.items
+all_see zero two empty adds = subst (AllByRecursion (SeesBelow two.next)) (sym (adds.requests ∙ ap (λ rs. rs ++ adds.added) empty)) adds.sees
 
 module _ (cps : Cps) (w : Tables) where
   pub is_layout : (zero one two three : Work) (p : Frames) (blocks : List Block) (vars : List Var) (site : Around) → IsWhole cps → DistinctArmsAreOwn → w.first ≡ first_lams cps → ((l : ℕ) → length (lam_needs w l) ≤ cps.shared.size) → StandFirst w w.first one.requests.items
       → two.requests.items ≡ one.requests.items ++ For.Begins vars site cps.entry ∷ [] → p.entry ≡ length one.requests.items → vars ≡ [] → site ≡ record { joins = []; own = None; catches = [] } → AreLaid cps w two three blocks → p.blocks.items ≡ blocks → p.templates.items ≡ three.templates.items
-      → p.shared ≡ cps.shared → ((x : ℕ) → is_assigned cps x ≡ false) → zero.requests.items ≡ [] → zero.templates.items ≡ [] → Adds zero two [] [] → IsLayout cps p
+      → p.shared ≡ cps.shared → ((x : ℕ) → is_assigned cps x ≡ false) → zero.requests.items ≡ [] → AllByRecursion (IsWholeTemplate p) p.templates.items → Adds zero two [] [] → IsLayout cps p
   unfolding laid_out
-  is_layout zero one two three p blocks vars site whole own known small stand asked entry none bare laid same templates shared unassigned empty bare_templates before =
+  is_layout zero one two three p blocks vars site whole own known small stand asked entry none bare laid same templates shared unassigned empty fits before =
       let is_laid : IsLaidOut cps p = laid_out cps w one two three p blocks vars site known small stand asked entry none bare laid same templates shared unassigned in
       let adds : Adds zero three (bound_in blocks) (arms_in blocks) = adds_more zero two three [] (bound_in blocks) [] (arms_in blocks) before laid.adds in
       let all : three.requests.items ≡ adds.added = adds.requests ∙ ap (λ rs. rs ++ adds.added) empty in
@@ -58,7 +73,7 @@ module _ (cps : Cps) (w : Tables) where
       record {
         laid = is_laid;
         owed = record {
-          templates = no_templates p (templates ∙ ap (λ (v : _). v.items) adds.templates ∙ bare_templates);
+          templates = whole_templates p fits;
           arms = record {
             once = own cps p whole is_laid (subst AreDistinct arms (arms_distinct 0 three.requests.items));
             later = λ k b e. All-from_recursion (λ arm. k < arm) (arms_of b.last) (laid.later k b (subst (λ bs. slice_get bs k ≡ Some b) same e));

@@ -41,7 +41,7 @@ block_adds old mid new b params made takes ops g h =
     subst (λ xs. Adds old new (numbers xs ++ bound_by b.ops.items) (arms_of b.last)) (sym takes) (subst (λ os. Adds old new (numbers params ++ bound_by os) (arms_of b.last)) (sym ops) (adds_more old mid new (numbers params) (bound_by made) [] (arms_of b.last) g h))
 
 pub opened_adds : (old new : Work) (vars : List Var) (opened : OpenScope) → IsOpened old new vars opened → Adds old new (numbers opened.params) []
-opened_adds old new vars opened o = adds_bound old new (numbers opened.params) o.requests o.templates
+opened_adds old new vars opened o = adds_bound old new (numbers opened.params) o.requests
     (subst (λ ns. Rises old.next ns new.next) (sym o.params) (rises_counted old.next (length vars) new.next (let n = o.next in omega (arith, n))))
 
 module _ (cps : Cps) (w : Tables) where
@@ -130,6 +130,13 @@ pairs_below (x ∷ xs) (y ∷ ys) n (suc k) m e le = ((let h = head_same y.0 n (
     tail_same : (a b : ℕ) (as_ bs : List ℕ) → a ∷ as_ ≡ b ∷ bs → as_ ≡ bs
     tail_same a b as_ bs h = cc
 
+head_below : (n k m : ℕ) (x : Var) (xs : List Var) → numbers (x ∷ xs) ≡ counted n k → n + k ≤ m → x.0 < m
+head_below n zero m x xs e le = cc
+head_below n (suc k) m x xs e le = let h = same_head x.0 n (numbers xs) (counted (suc n) k) e in omega (arith, h, le)
+  where
+    same_head : (a b : ℕ) (as_ bs : List ℕ) → a ∷ as_ ≡ b ∷ bs → a ≡ b
+    same_head a b as_ bs h = cc
+
 -- ---- fetching
 
 pub fetches_more : (get : Var → ℕ → FrameOp) (apart : ℕ) (kept : List ℕ) (before mid : Scoped) (ops : List FrameOp) (x slot : ℕ) (y : Var) → Fetches get apart kept before mid ops → slice_get kept slot ≡ Some x → IsUnused mid y.0 → (y.0 == apart) ≡ false
@@ -175,7 +182,7 @@ module _ (cps : Cps) (w : Tables) where
     grows = grows_more w old two new (grows_same w old two (f.requests ∙ rs) (f.templates ∙ ts) (let n = f.next in omega (arith, n, next))) l.grows;
     adds = block_adds old one new b (value ∷ []) (f.made ++ Op.Pop ∷ l.made) takes
         (ap (λ (o : _). o.items) ops ∙ l.ops ∙ ap (λ zs. zs ++ l.made) popped ∙ append_assoc gets (Op.Pop ∷ []) l.made ∙ ap (λ zs. zs ++ Op.Pop ∷ l.made) f.ops)
-        (adds_variable old one value.0 rs ts is next) (adds_line one two new f.made (Op.Pop ∷ l.made) (arms_of b.last) f.adds l.adds);
+        (adds_variable old one value.0 rs is next) (adds_line one two new f.made (Op.Pop ∷ l.made) (arms_of b.last) f.adds l.adds);
     fits = λ ps ts2 x y. record {
       value = value;
       vars = held;
@@ -198,7 +205,7 @@ module _ (cps : Cps) (w : Tables) where
       → IsBlockFor cps w old new (For.CodeOf l) b
   code_fits old one two three new l lam own opened held needs ats vars block b is same callable first next rs ts o f joined found more asks begins last params = record {
     grows = grows_more w old three new (grows_same w old three (f.requests ∙ o.requests ∙ rs) (f.templates ∙ o.templates ∙ ts) (let n = o.next in let m = f.next in omega (arith, n, m, next))) more;
-    adds = block_adds old two new b (own ∷ opened.params) f.made params f.ops (adds_more old one two (own.0 ∷ []) (numbers opened.params) [] [] (adds_variable old one own.0 rs ts first next) (opened_adds one two lam.params opened o))
+    adds = block_adds old two new b (own ∷ opened.params) f.made params f.ops (adds_more old one two (own.0 ∷ []) (numbers opened.params) [] [] (adds_variable old one own.0 rs first next) (opened_adds one two lam.params opened o))
         (adds_behind two three new (bound_by f.made) [] (arms_of b.last) f.adds (subst (Adds three new []) (sym (ap arms_of last)) asks));
     fits = λ ps ts2 x y.
         let whole : numbers vars ≡ numbers lam.params ++ lam_needs w l = ap numbers joined ∙ map-append (λ z. z.0) lam.params needs ∙ ap (λ ns. numbers lam.params ++ ns) same in
@@ -222,5 +229,40 @@ module _ (cps : Cps) (w : Tables) where
           held = subst (λ ns. AreHeld held ns ats) whole found;
           once = callable.distinct;
           apart = subst (λ ns. AllByRecursion (λ z. (is_in ns z ≡ false) × (is_celled w z ≡ false)) (numbers lam.params)) same callable.apart;
+        };
+  }
+
+  pub method_fits : (old two three new : Work) (l : ℕ) (lam : Lam) (own : Var) (params : List Var) (opened : OpenScope) (held : Scoped) (kept needs ats vars : List Var) (block : ℕ) (b : Block) → slice_get cps.lams.items l ≡ Some lam → numbers needs ≡ lam_needs w l → IsCallable cps w lam.params kept
+      → IsOpened old two lam.params opened → opened.params ≡ own ∷ params → IsFetched two three opened.scope held [] b.ops.items kept (Some own) → vars ≡ lam.params ++ needs
+      → AreHeld held (numbers vars) ats → Grows w three new → Adds three new [] [] → Ever w new (λ v. IsFor v block (purpose_of w (For.Begins vars (record { joins = []; own = Some lam.k; catches = [] }) lam.body))) → b.last ≡ Last.Jump block (variables ats) → b.params ≡ opened.params
+      → IsBlockFor cps w old new (For.MethodOf l kept) b
+  method_fits old two three new l lam own params opened held kept needs ats vars block b is same callable o split f joined found more asks begins last takes = record {
+    grows = grows_more w old three new (grows_same w old three (f.requests ∙ o.requests) (f.templates ∙ o.templates) (let n = o.next in let m = f.next in omega (arith, n, m))) more;
+    adds = block_adds old two new b opened.params f.made takes f.ops (opened_adds old two lam.params opened o)
+        (adds_behind two three new (bound_by f.made) [] (arms_of b.last) f.adds (subst (Adds three new []) (sym (ap arms_of last)) asks));
+    fits = λ ps ts2 x y.
+        let whole : numbers vars ≡ numbers lam.params ++ lam_needs w l = ap numbers joined ∙ map-append (λ z. z.0) lam.params needs ∙ ap (λ ns. numbers lam.params ++ ns) same in
+        let below : own.0 < two.next = (head_below old.next (length lam.params) two.next own params (ap numbers (sym split) ∙ o.params) (let n = o.next in omega (arith, n))) in
+        record {
+          lam = lam;
+          is = is;
+          self = own;
+          params = params;
+          vars = held;
+          ys = ats;
+          body = block;
+          takes = takes ∙ split;
+          distinct = subst (λ xs. AreDistinct (numbers xs)) split (new_distinct old.next (length lam.params) opened.params o.params);
+          count = ap length (sym split) ∙ sym (opened_length old two lam.params opened o);
+          few = callable.count;
+          fetches = subst (λ zs. Fetches (λ z slot. Op.ClosureGet z own slot) own.0 (numbers kept) (paired (numbers lam.params) (own ∷ params)) held zs) (sym f.ops)
+              (subst (λ xs. Fetches (λ z slot. Op.ClosureGet z own slot) own.0 (numbers kept) (paired (numbers lam.params) xs) held f.made) split
+              (subst (λ hs. Fetches (λ z slot. Op.ClosureGet z own slot) own.0 (numbers kept) hs held f.made) o.scope (f.fetches own.0 below)));
+          short = let e = ap length f.ops in let k = f.count in let m = callable.few in omega (arith, e, k, m);
+          goes = last;
+          begins = subst (λ ns. IsFor (sketch_of w ps ts2) block (Begins (record { vars = ns; exits = OwnExit lam.k.0; catches = []; term = lam.body }))) whole (begins ps ts2 x y);
+          held = subst (λ ns. AreHeld held ns ats) whole found;
+          once = callable.distinct;
+          apart = callable.apart;
         };
   }

@@ -23,6 +23,8 @@ use Rattle.layout_steps.specs.Steps.{IsLaid}
 use Rattle.layout_tables.specs.Additions.{Adds, bound_by}
 use Rattle.frame_ir.specs.Parts.{arms_of}
 use Rattle.frame_ir.specs.declared.forms.Frames.{Frames}
+use Rattle.frame_ir.specs.declared.forms.Template.{Template}
+use Rattle.frame_ir.specs.Whole.{HasParams, IsMethodCount}
 use Rattle.layout_relation.specs.Laid.{IsLaidOut}
 use Rattle.layout_laws.specs.Wholeness.{IsOwed}
 
@@ -111,6 +113,17 @@ pub record AreLaid (cps : Cps) (w : Tables) (old new : Work) (blocks : List Bloc
 -- the codes of the procedures that stand first
 abbrev pub StandFirst : Tables → ℕ → List Request → Type 0
 StandFirst w n requests = (length requests ≡ n) × ((l : ℕ) → l < n → (slice_get requests l ≡ Some (For.CodeOf l)) × (lam_needs w l ≡ []))
+
+-- ---- templates
+
+abbrev pub IsOpIn : Frames → ℕ → Type 0
+IsOpIn p o = o < length p.shared.ops.items
+
+-- what a template names is there, and operations and codes go together
+pub record IsWholeTemplate (p : Frames) (t : Template) : Type 0 where
+  pub together : length t.ops ≡ length t.codes
+  pub ops : AllByRecursion (IsOpIn p) t.ops
+  pub codes : AllByRecursion (HasParams p IsMethodCount) t.codes
 
 -- frames that lay out a program, and what else makes them whole
 pub record IsLayout (cps : Cps) (p : Frames) : Type 0 where

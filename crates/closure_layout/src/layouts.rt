@@ -7,10 +7,12 @@ ghost use Rattle.layout_tables.specs.Sketches.{KnowsFirst};
 ghost use Rattle.layout_relation.specs.Laws.{IsSmall};
 ghost use Rattle.frame_ir.specs.Whole.{IsWhole as IsWholeFrames};
 ghost use Rattle.layout_laws.specs.Wholeness.{AreOnHeap};
-ghost use Rattle.layout_tables.specs.Additions.{Adds};
+ghost use Rattle.layout_tables.specs.Additions.{Adds, SeesBelow};
+ghost use Rattle.std.specs.List.{AllByRecursion};
 ghost use Rattle.closure_layout.specs.Blocks.{AreLaid, StandFirst, IsLayout};
 
 use crate::blocks::lay_block;
+use crate::templates::are_templates;
 use cps_ir::Cps;
 use frame_ir::{Block, Frames};
 use layout_laws::{distinct_arms_are_own, laid_out_is_on_heap, laid_out_is_whole};
@@ -45,7 +47,8 @@ fn lay_blocks(
     tables: &Tables,
     work: &mut Work,
 ) -> Result<Vec<Block>, Memory>
-    requires { KnowsFirst cps.now tables.now }
+    requires first { KnowsFirst cps.now tables.now }
+    requires sees { AllByRecursion (SeesBelow work.old.next) work.old.requests.items }
     ensures { IfOk result (λ blocks. AreLaid cps.now tables.now work.old work.new blocks.items) }
 {
     let mut blocks = Vec::new(alloc);
@@ -86,19 +89,23 @@ fn lay_out(alloc: Global, cps: Cps) -> Result<Frames, Memory>
         term: cps.entry,
     })?;
     let blocks = lay_blocks(alloc, &cps, &tables, &mut work)?;
-    Ok(Frames {
+    let frames = Frames {
         shared: cps.shared,
         blocks,
         entry,
         templates: work.templates,
-    })
+    };
+    if !are_templates(&frames) {
+        return Err(Memory);
+    }
+    Ok(frames)
 }
 
 /// Frames that lay out a whole program in which no variable is assigned; they are whole, with small frames and records, and each closure
 /// stands on the heap. Each LAMBDA has a block for its code, which fetches what it needs
 /// from its closure, and one for its body; each continuation that waits has the block to which its call returns; a call in a tail place makes
-/// no frame (Kranz 1988, on code generation). The shared parts are moved. An OBJECT is not laid out yet: it is answered as
-/// want of memory, which is the only error otherwise.
+/// no frame (Kranz 1988, on code generation). An object has a template, with a code for each method, which fetches what
+/// all of them need out of the object. The shared parts are moved. The only error is the want of memory.
 pub fn layout(alloc: Global, cps: Cps) -> Result<Frames, Memory>
     requires whole { IsWhole cps }
     requires unassigned { (x : ℕ) → is_assigned cps x ≡ false }

@@ -16,7 +16,8 @@ use Rattle.frame_ir.specs.declared.forms.FrameEnd.TheVariants as Last
 use Rattle.layout_tables.specs.declared.requests.Request.TheVariants as For
 use Rattle.frame_ir.specs.declared.forms.Template.{Template}
 use Rattle.frame_ir.specs.Arguments.{code_of_global}
-use Rattle.layout_relation.specs.Contexts.{Return, Leaves, exit_of, CodeOf, Resumes, Begins, ArmOf, Start, IsUnneeded, IsFresh, Purpose}
+use Rattle.layout_relation.specs.Links.{Zipped}
+use Rattle.layout_relation.specs.Contexts.{Return, Leaves, exit_of, CodeOf, MethodOf, Resumes, Begins, ArmOf, Start, IsUnneeded, IsFresh, Purpose}
 use Rattle.layout_relation.specs.Laid.{Sketch, IsFor, numbers, AreDistinct, AreHeld, SameArg, Prepares, Awaits, Gives, LaysTerm, made_by, most_needs, variables}
 use Rattle.layout_tables.specs.declared.tables.Tables.{Tables}
 use Rattle.layout_tables.specs.declared.requests.Work.{Work}
@@ -64,6 +65,13 @@ pub record IsPrepared (cps : Cps) (w : Tables) (vars : Scoped) (old new : Work) 
   pub from : AllByRecursion (λ y. old.next ≤ y) (made_by made)
   pub below : AllByRecursion (λ y. y < new.next) (made_by made)
   pub prepares : Ever w new (λ v. Prepares cps v vars args made bs)
+
+-- the codes of methods of an object that keeps these variables
+pub record AreMethods (old new : Work) (methods : List ℕ) (needs : List Var) (codes : List ℕ) : Type 0 where
+  pub grows : (w : Tables) → Grows w old new
+  pub adds : Adds old new [] []
+  pub next : new.next ≡ old.next
+  pub run : (w : Tables) → Ever w new (λ v. Zipped (λ l code. IsFor v code (MethodOf l (numbers needs))) methods codes)
 
 -- ---- frames
 

@@ -1,5 +1,6 @@
 -- What a step adds, whatever it means: requests behind those that there are, and new variables, each above the ones before it.
-use Rattle.std.specs.Prelude.{◌≡◌, ℕ, suc, ◌≤◌, List, [], ◌∷◌, ◌++◌, length}
+use Rattle.std.specs.Prelude.{◌≡◌, ℕ, suc, ◌<◌, ◌≤◌, List, [], ◌∷◌, ◌++◌, length}
+use Rattle.std.specs.List.{AllByRecursion}
 use Rattle.frame_ir.specs.declared.forms.FrameOp.{FrameOp}
 use Rattle.frame_ir.specs.Parts.{op_binds, arms_of}
 use Rattle.layout_relation.specs.Laid.{numbers}
@@ -30,10 +31,15 @@ abbrev pub arms_by : Step → List ℕ
 arms_by (Next t) = []
 arms_by (Done last) = arms_of last
 
+-- an arm sees no variable from a number on
+abbrev pub SeesBelow : ℕ → Request → Type 0
+SeesBelow n (For.ArmOf vars site term) = AllByRecursion (λ p. p.1 < n) vars
+SeesBelow n _ = Unit {0}
+
 -- the variables that are bound, and the places of the arms that are asked for
 pub record Adds (old new : Work) (binds arms : List ℕ) : Type 0 where
   pub added : List Request
   pub requests : new.requests.items ≡ old.requests.items ++ added
   pub asks : arms_from (length old.requests.items) added ≡ arms
-  pub templates : new.templates ≡ old.templates
+  pub sees : AllByRecursion (SeesBelow new.next) added
   pub rises : Rises old.next binds new.next

@@ -11,5 +11,5 @@ pub loop-place-preserved : goal.loop-place-preserved
 loop-place-preserved c = record {
   stand = stand_more c.args.tables.now c.loop-place.place c.in-Ok.l c.loop-place.work.requests.items c.request.new.self.requests.items c.loop-place.invariant.stand (search rules) c.in_ok-request.ensures.requests
       (none_needed c.args.tables.now c.in-Ok.l (length c.lam_needs-count.result.now) c.lam_needs-count.result.now c.lam_needs-count.ensures refl (search rules));
-  adds = adds_more c.args.work.now c.loop-place.work c.request.new.self [] [] [] [] c.loop-place.invariant.adds (adds_asked c.loop-place.work c.request.new.self (For.CodeOf c.in-Ok.l) c.in_ok-request.ensures.requests c.in_ok-request.ensures.templates c.in_ok-request.ensures.next);
+  adds = adds_more c.args.work.now c.loop-place.work c.request.new.self [] [] [] [] c.loop-place.invariant.adds (adds_asked c.loop-place.work c.request.new.self (For.CodeOf c.in-Ok.l) c.in_ok-request.ensures.requests c.in_ok-request.ensures.next tt);
 }

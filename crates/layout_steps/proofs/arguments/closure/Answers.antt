@@ -16,5 +16,5 @@ returns c = record {
   runs = asked c.args.tables.now c.args.work.now c.request.new.self (For.CodeOf c.args.l) c.in_ok-code.code c.in_ok-code.ensures.requests c.in_ok-code.ensures.place;
   grows = grows_asked c.args.tables.now c.args.work.now c.request.new.self (For.CodeOf c.args.l) c.in_ok-code.ensures.requests c.in_ok-code.ensures.templates c.in_ok-code.ensures.next;
   next = c.in_ok-code.ensures.next;
-  adds = adds_asked c.args.work.now c.request.new.self (For.CodeOf c.args.l) c.in_ok-code.ensures.requests c.in_ok-code.ensures.templates c.in_ok-code.ensures.next;
+  adds = adds_asked c.args.work.now c.request.new.self (For.CodeOf c.args.l) c.in_ok-code.ensures.requests c.in_ok-code.ensures.next tt;
 }

@@ -10,7 +10,7 @@ pub returns-in-Proc : goal.returns-in-Proc
 returns-in-Proc c = subst (λ a. IsPrepared c.args.cps.now c.args.tables.now c.args.scope.now c.args.work.now c.closure.new.work (a ∷ []) c.args.ops.now.items c.push.new.self.items (Argument.Var c.in_ok-to.to ∷ [])) (sym c.in-Proc.is)
     (prepared_closure c.args.cps.now c.args.tables.now c.args.scope.now c.args.work.now c.variable.new.self c.closure.new.work c.in-Proc.l c.in_ok-to.to c.in_ok-made.made c.args.ops.now.items c.push.new.self.items c.requires.first c.requires.below
     (grows_same c.args.tables.now c.args.work.now c.variable.new.self c.variable.ensures.requests c.variable.ensures.templates (let e = c.in_ok-to.ensures.next in omega (arith, e)))
-    (adds_variable c.args.work.now c.variable.new.self c.in_ok-to.to.0 c.variable.ensures.requests c.variable.ensures.templates c.in_ok-to.ensures.variable c.in_ok-to.ensures.next)
+    (adds_variable c.args.work.now c.variable.new.self c.in_ok-to.to.0 c.variable.ensures.requests c.in_ok-to.ensures.variable c.in_ok-to.ensures.next)
     c.in_ok-to.ensures.variable c.in_ok-to.ensures.next c.in_ok-made.ensures c.in_ok-push.ensures.items)
 
 pub returns-in-Some : goal.returns-in-Some

@@ -19,5 +19,5 @@ returns c = record {
   };
   grows = grows_asked c.args.tables.now c.args.work.now c.request.new.self (For.Begins c.in_ok-vars.vars c.in_ok-same.same c.args.body) c.in_ok-block.ensures.requests c.in_ok-block.ensures.templates c.in_ok-block.ensures.next;
   next = c.in_ok-block.ensures.next;
-  adds = adds_asked c.args.work.now c.request.new.self (For.Begins c.in_ok-vars.vars c.in_ok-same.same c.args.body) c.in_ok-block.ensures.requests c.in_ok-block.ensures.templates c.in_ok-block.ensures.next;
+  adds = adds_asked c.args.work.now c.request.new.self (For.Begins c.in_ok-vars.vars c.in_ok-same.same c.args.body) c.in_ok-block.ensures.requests c.in_ok-block.ensures.next tt;
 }
