@@ -1,14 +1,13 @@
 -- The whole layout, with what makes the frames whole.
 use Rattle.std.specs.Prelude.{◌≢◌, AllPairs, Contains, IsSomeAnd}
 use Rattle.std.specs.List.{AllByRecursion, flat_map}
-use Rattle.std.proofs.Common.{◌≡◌, ℕ, suc, ◌+◌, ◌<◌, ◌≤◌, false, List, [], ◌∷◌, ◌++◌, length, slice_get, Option, Some, None, refl, sym, ap, subst, ◌∙◌, arith, All}
+use Rattle.std.proofs.Common.{◌≡◌, ℕ, suc, ◌+◌, ◌<◌, ◌≤◌, false, List, [], ◌∷◌, ◌++◌, length, slice_get, Option, Some, None, refl, sym, ap, subst, ◌∙◌, arith}
 use Rattle.std.proofs.lemmas.List.Elements.{All-from_recursion}
 use Rattle.std.proofs.lemmas.Option.{slice_get_within}
 use Rattle.cps_ir.proofs.ProperLists.{each_more, each_joined}
 use Rattle.t_base.specs.declared.basics.Var.{Var}
 use Rattle.cps_ir.specs.declared.terms.Cps.{Cps}
 use Rattle.cps_ir.specs.Parts.{first_lams, is_assigned}
-use Rattle.cps_ir.specs.Reaches.{is_in}
 use Rattle.cps_ir.specs.Whole.{IsWhole}
 use Rattle.frame_ir.specs.declared.forms.Block.{Block}
 use Rattle.frame_ir.specs.declared.forms.Frames.{Frames}
@@ -16,14 +15,13 @@ use Rattle.frame_ir.specs.declared.forms.Template.{Template}
 use Rattle.frame_ir.specs.Parts.{arms_of, all_arms, block_binds, method_codes}
 use Rattle.frame_ir.specs.Whole.{IsBlock, IsTemplate, HasParams, IsMethodCount}
 use Rattle.layout_relation.specs.Links.{IsIn, first, later}
-use Rattle.layout_relation.specs.Contexts.{Context, ArmOf}
-use Rattle.layout_relation.specs.Laid.{IsFor, IsLaidOut, AreDistinct}
-use Rattle.layout_laws.specs.Wholeness.{AreTemplates, BindsOnce, DistinctArmsAreOwn}
+use Rattle.layout_relation.specs.Laid.{IsLaidOut, AreDistinct}
+use Rattle.layout_laws.specs.Wholeness.{AreTemplates, DistinctArmsAreOwn}
 use Rattle.layout_tables.specs.declared.tables.Tables.{Tables}
 use Rattle.layout_tables.specs.declared.requests.Work.{Work}
 use Rattle.layout_tables.specs.declared.requests.Request.TheVariants as For
 use Rattle.layout_tables.specs.Around.{Around}
-use Rattle.layout_tables.specs.Sketches.{lam_needs, purposes_of}
+use Rattle.layout_tables.specs.Sketches.{lam_needs}
 use Rattle.layout_tables.specs.Additions.{Adds, Rises, SeesBelow, arms_from}
 use Rattle.layout_tables.proofs.Adding.{adds_more}
 use Rattle.closure_layout.specs.Blocks.{AreLaid, StandFirst, IsLayout, IsOpIn, IsWholeTemplate, bound_in, arms_in}

@@ -65,8 +65,8 @@ module _ (cps : Cps) (w : Tables) (vars : Scoped) where
       by i = record {
         tests_nothing = ap arms_of i.is;
         ever = λ ps ts f g t. subst (λ e. Gives cps (sketch_of w ps ts) (context_at w vars a) t (Continuation.Var j) value [] e) (sym i.is)
-          (gives_join (context_at w vars a) t j value (meeting_of w join) (exits_of w (drop (place + 1) a.joins) a.own) i.ats way (i.begins ps ts f g) i.arrives.held
-          (is_new ps ts (record a { joins = drop (place + 1) a.joins }) join.param join.body i.ats i.arrives) (few_needs (record a { joins = drop (place + 1) a.joins }) join.param join.body i.ats i.arrives));
+            (gives_join (context_at w vars a) t j value (meeting_of w join) (exits_of w (drop (place + 1) a.joins) a.own) i.ats way (i.begins ps ts f g) i.arrives.held
+            (is_new ps ts (record a { joins = drop (place + 1) a.joins }) join.param join.body i.ats i.arrives) (few_needs (record a { joins = drop (place + 1) a.joins }) join.param join.body i.ats i.arrives));
       }
 
   pub given_jump : (k : Work) (a : Around) (block : ℕ) (param : Var) (body : ℕ) (value : Arg) (last : FrameEnd) → IsJumpTo cps w k vars a block param body value last

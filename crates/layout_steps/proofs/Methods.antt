@@ -1,6 +1,5 @@
 -- Objects.
-use Rattle.std.proofs.Common.{◌≡◌, ℕ, zero, suc, ◌+◌, ◌<◌, ◌≤◌, ◌==◌, true, List, [], ◌∷◌, ◌++◌, length, zip, take, get_or, slice_get, Some, refl, sym, ap, subst, ◌∙◌, arith}
-use Rattle.std.proofs.lemmas.List.{append-nil}
+use Rattle.std.proofs.Common.{◌≡◌, ℕ, ◌+◌, ◌<◌, ◌≤◌, ◌==◌, true, List, [], ◌∷◌, ◌++◌, length, zip, take, get_or, slice_get, Some, refl, sym, ap, subst, ◌∙◌, arith}
 use Rattle.t_base.specs.declared.basics.Var.{Var}
 use Rattle.cps_ir.specs.declared.args.Arg.{Arg}
 use Rattle.cps_ir.specs.declared.args.Arg.TheVariants as Argument
@@ -9,12 +8,11 @@ use Rattle.cps_ir.specs.declared.terms.Term.TheVariants as Node
 use Rattle.cps_ir.specs.declared.terms.Cps.{Cps}
 use Rattle.frame_ir.specs.declared.forms.FrameOp.{FrameOp}
 use Rattle.frame_ir.specs.declared.forms.FrameOp.TheVariants as Op
-use Rattle.frame_ir.specs.declared.forms.FrameEnd.{FrameEnd}
 use Rattle.frame_ir.specs.declared.forms.Template.{Template}
 use Rattle.frame_ir.specs.Calls.{methods_of}
 use Rattle.layout_relation.specs.Links.{Zipped, zip_none, zip_one}
 use Rattle.layout_relation.specs.Contexts.{MethodOf}
-use Rattle.layout_relation.specs.Laid.{Sketch, IsFor, IsMethod, numbers, AreHeld, Prepares, Gives, LaysTerm, lays_object}
+use Rattle.layout_relation.specs.Laid.{Sketch, IsFor, IsMethod, numbers, AreHeld, Prepares, Gives, lays_object}
 use Rattle.layout_relation.proofs.Lists.{get_front}
 use Rattle.layout_relation.proofs.Scopes.{eqb_same}
 use Rattle.layout_tables.specs.declared.tables.Tables.{Tables}
@@ -22,8 +20,8 @@ use Rattle.layout_tables.specs.declared.requests.Request.TheVariants as For
 use Rattle.layout_tables.specs.declared.requests.Work.{Work}
 use Rattle.layout_tables.specs.declared.lines.Line.{Line}
 use Rattle.layout_tables.specs.declared.lines.Step.{Step}
-use Rattle.layout_tables.specs.Sketches.{Ever, Grows, Leads, AreBelow, context_of, purposes_of, sketch_of}
-use Rattle.layout_tables.specs.Additions.{Adds, bound_by}
+use Rattle.layout_tables.specs.Sketches.{Grows, Leads, AreBelow, context_of, purposes_of, sketch_of}
+use Rattle.layout_tables.specs.Additions.{Adds}
 use Rattle.layout_tables.proofs.Basics.{take_more}
 use Rattle.layout_tables.proofs.Growing.{grows_none, grows_more, grows_asked, asked, later}
 use Rattle.layout_tables.proofs.Adding.{adds_none, adds_more, adds_asked, adds_ops}

@@ -1,4 +1,4 @@
-use Rattle.std.proofs.Common.{rules, ◌≡◌, refl, sym, ap, subst, ◌∙◌, [], ◌∷◌, ◌++◌, Some}
+use Rattle.std.proofs.Common.{rules, ◌≡◌, refl, ap, subst, ◌∙◌, [], ◌∷◌, ◌++◌, Some}
 use Rattle.frame_ir.specs.declared.forms.FrameEnd.TheVariants as Last
 use Rattle.layout_relation.specs.Laid.{variables, IsFor, numbers, AreHeld}
 use Rattle.layout_tables.specs.declared.requests.Request.TheVariants as For

@@ -1,4 +1,4 @@
-use Rattle.std.proofs.Common.{refl, sym, ap, subst, arith, ◌∙◌, ◌++◌, ◌∷◌, []}
+use Rattle.std.proofs.Common.{refl, ap, arith, ◌∙◌, ◌++◌, ◌∷◌, []}
 use Rattle.cps_ir.specs.declared.args.Arg.TheVariants as Argument
 use Rattle.frame_ir.specs.declared.forms.FrameEnd.TheVariants as Last
 use Rattle.layout_tables.proofs.Growing.{grows_same}

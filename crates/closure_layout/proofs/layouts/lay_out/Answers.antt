@@ -1,4 +1,4 @@
-use Rattle.std.proofs.Common.{◌∙◌, ap, refl, []}
+use Rattle.std.proofs.Common.{◌∙◌, refl, []}
 use Rattle.closure_layout.proofs.Owing.{all_see, is_layout}
 use Rattle.layout_tables.specs.declared.requests.Request.TheVariants as For
 use Rattle.layout_tables.specs.declared.requests.Work.{Work}

@@ -4,7 +4,6 @@ use Rattle.layout_relation.specs.Laid.{Gives}
 use Rattle.layout_tables.specs.Sketches.{context_of, sketch_of}
 use Rattle.layout_tables.proofs.Growing.{grows_none}
 use Rattle.layout_steps.proofs.Handing.{leads_here, leads_done}
-use Rattle.frame_ir.specs.Parts.{arms_of}
 use Rattle.layout_tables.proofs.Adding.{adds_none}
 use Rattle.layout_steps.proofs.Handing.{adds_end}
 use Rattle.layout_steps.proofs.giving.give_new.Goals as goal

@@ -1,4 +1,4 @@
-use Rattle.std.proofs.Common.{refl, arith}
+use Rattle.std.proofs.Common.{refl}
 use Rattle.layout_steps.proofs.Laying.{laid_if}
 use Rattle.layout_tables.proofs.Growing.{below_more}
 use Rattle.layout_steps.proofs.terms.lay_if.Goals as goal
