@@ -24,6 +24,7 @@ use Rattle.layout_tables.specs.declared.lines.Line.{Line}
 use Rattle.layout_tables.specs.declared.lines.Step.{Step}
 use Rattle.layout_tables.specs.declared.lines.Step.TheVariants.{Next, Done}
 use Rattle.layout_tables.specs.Around.{Around}
+use Rattle.layout_tables.specs.Additions.{Adds, arms_by}
 
 -- ---- tables
 
@@ -144,8 +145,10 @@ abbrev pub Reaches : Tables → Cps → Work → Line → (Sketch → List Frame
 Reaches w cps k line P (Next t) = Ever w k (λ v. (ops : List FrameOp) (last : FrameEnd) → Lays cps v (context_of w line) t ops last → P v ops last)
 Reaches w cps k line P (Done last) = Ever w k (λ v. P v [] last)
 
-pub record Leads (w : Tables) (cps : Cps) (old new : Work) (line : Line) (P : Sketch → List FrameOp → FrameEnd → Type 0) (step : Step) : Type 0 where
+-- `binds` are the variables that are bound on the way
+pub record Leads (w : Tables) (cps : Cps) (old new : Work) (binds : List ℕ) (line : Line) (P : Sketch → List FrameOp → FrameEnd → Type 0) (step : Step) : Type 0 where
   pub grows : Grows w old new
+  pub adds : Adds old new binds (arms_by step)
   pub below : AreBelow new.next line.scope
   pub reaches : Reaches w cps new line P step
 

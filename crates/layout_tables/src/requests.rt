@@ -49,6 +49,20 @@ impl Work {
         Ok(block)
     }
 
+    /// One more template, and its place.
+    pub fn template(&mut self, template: Template) -> Result<u32, Memory>
+        ensures templates { OnOk result (self.new.templates.items ≡ self.old.templates.items ++ template ∷ []) }
+        ensures place { IfOk result (λ place. place ≡ length self.old.templates.items) }
+        ensures requests { self.new.requests ≡ self.old.requests }
+        ensures next { self.new.next ≡ self.old.next }
+    {
+        let Ok(place) = u32::try_from(self.templates.len()) else {
+            return Err(Memory);
+        };
+        self.templates.push(template)?;
+        Ok(place)
+    }
+
     /// A new variable.
     pub fn variable(&mut self) -> Result<Var, Memory>
         ensures variable { IfOk result (λ var. var.0 ≡ self.old.next) }

@@ -3,6 +3,7 @@ use Rattle.layout_relation.specs.Laid.{AreHeld, AreDistinct, numbers}
 use Rattle.layout_tables.specs.declared.requests.Request.TheVariants as For
 use Rattle.layout_tables.specs.Sketches.{needs_behind}
 use Rattle.layout_tables.proofs.Growing.{grows_asked, asked}
+use Rattle.layout_tables.proofs.Adding.{adds_asked}
 use Rattle.layout_steps.proofs.frames.frame.Goals as goal
 
 pub returns : goal.returns
@@ -13,4 +14,5 @@ returns c = record {
   once = subst (λ xs. AreDistinct (numbers xs)) (c.deref-2.ensures.value ∙ sym c.from_vec.ensures) (search rules);
   grows = grows_asked c.args.tables.now c.args.work.now c.request.new.self (For.Resumes c.args.param c.args.body c.args.site) c.in_ok-back.ensures.requests c.in_ok-back.ensures.templates c.in_ok-back.ensures.next;
   next = c.in_ok-back.ensures.next;
+  adds = adds_asked c.args.work.now c.request.new.self (For.Resumes c.args.param c.args.body c.args.site) c.in_ok-back.ensures.requests c.in_ok-back.ensures.next tt;
 }
