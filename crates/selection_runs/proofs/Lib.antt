@@ -1,2 +1,4 @@
 pub mod Blocks
 pub mod Begun
+pub mod Counted
+pub mod Ends
