@@ -2,3 +2,4 @@ pub mod Blocks
 pub mod Begun
 pub mod Counted
 pub mod Ends
+pub mod Calling
