@@ -3,3 +3,4 @@ pub mod Begun
 pub mod Counted
 pub mod Ends
 pub mod Calling
+pub mod Entered
