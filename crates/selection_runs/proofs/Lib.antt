@@ -4,3 +4,4 @@ pub mod Counted
 pub mod Ends
 pub mod Calling
 pub mod Entered
+pub mod Called
