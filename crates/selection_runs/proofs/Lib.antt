@@ -5,3 +5,4 @@ pub mod Ends
 pub mod Calling
 pub mod Entered
 pub mod Called
+pub mod Builtins
