@@ -24,7 +24,7 @@ use Rattle.prim_holds.proofs.Keeping.{count_free}
 use Rattle.word_selection.specs.Codes.{end_code}
 use Rattle.word_selection.specs.Selections.{IsBlockOf}
 use Rattle.selection_steps.specs.Settings.{Setting, choice_of, layout_of, IsSound, IsFitEnd}
-use Rattle.selection_steps.specs.Related.{ways_of, Runs, Keeps}
+use Rattle.selection_steps.specs.Related.{ways_of, Runs, Keeps, Stands}
 use Rattle.selection_steps.specs.Led.{most_moves, saved, Comes, Led}
 use Rattle.selection_steps.proofs.Leading.{AreBelow, below_more, below_now, held_above, held_from, led_by, lookup}
 use Rattle.selection_steps.proofs.Cells.{lasting_by}
@@ -44,12 +44,12 @@ parameters_from t u (x ∷ xs) le h = (let lt = h.0 in omega (arith, lt, le), h.
 module _ (m : Setting) where
   -- ---- the start of a block
 
-  pub begun_runs : (v : State) (e : Escapes) (born : ℕ → ℕ) (t k : ℕ) (b : Block) (vs : List Value) (moves : ℕ) (s : State) (y : Stamped) → slice_get m.p.blocks.items k ≡ Some b → Keeps m v
-      → Begins m.sizes (layout_of m) e (ways_of m born) t v (bound b.params vs) k y → Comes m s (record v { moves = moves; doing = Running b.ops.items b.last (bound b.params vs) }) y
-  begun_runs v e born t k b vs moves s y at keeps o =
+  pub begun_stands : (v : State) (e : Escapes) (born : ℕ → ℕ) (t k : ℕ) (b : Block) (vs : List Value) (moves : ℕ) (y : Stamped) → slice_get m.p.blocks.items k ≡ Some b → Keeps m v
+      → Begins m.sizes (layout_of m) e (ways_of m born) t v (bound b.params vs) k y → Stands m (record v { moves = moves; doing = Running b.ops.items b.last (bound b.params vs) }) y
+  begun_stands v e born t k b vs moves y at keeps o =
       let h : IsBlockOf (choice_of m) m.p m.words k b = m.selected.blocks.blocks k b at in
       let known : IsKnown m b = block_known m k b at in
-      inl (keeps, record {
+      (keeps, record {
         escapes = e;
         born = born;
         core = o.core;
@@ -66,6 +66,10 @@ module _ (m : Setting) where
         spelled = h.spelled;
         there = o.there;
       })
+
+  pub begun_runs : (v : State) (e : Escapes) (born : ℕ → ℕ) (t k : ℕ) (b : Block) (vs : List Value) (moves : ℕ) (s : State) (y : Stamped) → slice_get m.p.blocks.items k ≡ Some b → Keeps m v
+      → Begins m.sizes (layout_of m) e (ways_of m born) t v (bound b.params vs) k y → Comes m s (record v { moves = moves; doing = Running b.ops.items b.last (bound b.params vs) }) y
+  begun_runs v e born t k b vs moves s y at keeps o = inl (begun_stands v e born t k b vs moves y at keeps o)
 
   same_count : (P : State → Type 0) (n k : ℕ) (b : Bool) (s u : State) → (n == k) ≡ b → IsSound (if b then u else wrong s) → (n ≡ k → IsSound u → P u) → P (if b then u else wrong s)
   same_count P n k true s u eq sound h = h (eqb-true n k eq) sound

@@ -6,3 +6,4 @@ pub mod Calling
 pub mod Entered
 pub mod Called
 pub mod Builtins
+pub mod Leads
