@@ -7,3 +7,4 @@ pub mod Entered
 pub mod Called
 pub mod Builtins
 pub mod Leads
+pub mod Matching
