@@ -8,3 +8,5 @@ pub mod Called
 pub mod Builtins
 pub mod Leads
 pub mod Matching
+pub mod Starting
+pub mod Keeping
