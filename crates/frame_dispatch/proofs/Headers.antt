@@ -30,7 +30,7 @@ use Rattle.frame_stacks.specs.Stacks.{Ways, IsLasting}
 use Rattle.frame_reads.specs.Laws.{Fails}
 use Rattle.frame_calls.specs.Codes.{call_params, pass_on, apply_code}
 use Rattle.frame_calls.specs.Calls.{HoldsCall, Calls}
-use Rattle.frame_calls.proofs.Applying.{passes_on}
+use Rattle.frame_calls.proofs.Applying.{passes_on_to}
 use Rattle.frame_objects.proofs.Objects.{other_fails}
 use Rattle.frame_objects.specs.Laws.{object_code}
 use Rattle.frame_dispatch.specs.Codes.{by_header, others_code, apply_block}
@@ -62,19 +62,19 @@ module _ (words : Words) (sizes : Sizes) (Q : Stamped → Type 0) (l : Layout) (
   pub this_header : (header k : ℕ) (a : Stamp) (code others : Tree) → Performs words sizes Q 1 k code (header_read header a) → Performs words sizes Q 1 (3 + k) (by_header t header code others) (header_read header a)
   this_header header k a code others next = ask_performs_true words sizes Q (Number header) (Number header) (newest_kept c.env (t + 7) (Number header)) refl (ap Some (eq-eqb header header refl)) next
 
-pub builtin_applied : (words : Words) (sizes : Sizes) (l : Layout) (e : Escapes) (g : Ways) (t : ℕ) (s : State) (p : Builtin) (args : List Val) (c : Core) (apply look kill : ℕ) (block : WordBlock) → HoldsCall sizes l e g t s (Lasting (BuiltinV p)) args c → slice_get words.blocks.items (l.builtin_entry p) ≡ Some block → block.params ≡ call_params t → Performs words sizes (Calls sizes l e g t s (Lasting (BuiltinV p)) args (l.builtin_entry p)) 1 25 (apply_block t apply look kill) c
-builtin_applied words sizes l e g t s p args c apply look kill block h there params =
-    let Q : Stamped → Type 0 = Calls sizes l e g t s (Lasting (BuiltinV p)) args (l.builtin_entry p) in
+pub builtin_applied : (words : Words) (sizes : Sizes) (l : Layout) (e : Escapes) (g : Ways) (t u : ℕ) (s : State) (p : Builtin) (args : List Val) (c : Core) (apply look kill : ℕ) (block : WordBlock) → HoldsCall sizes l e g t s (Lasting (BuiltinV p)) args c → slice_get words.blocks.items (l.builtin_entry p) ≡ Some block → block.params ≡ call_params u → Performs words sizes (Calls sizes l e g u s (Lasting (BuiltinV p)) args (l.builtin_entry p)) 1 25 (apply_block t apply look kill) c
+builtin_applied words sizes l e g t u s p args c apply look kill block h there params =
+    let Q : Stamped → Type 0 = Calls sizes l e g u s (Lasting (BuiltinV p)) args (l.builtin_entry p) in
     let w : IsLasting l s (Lasting (BuiltinV p)) h.word = h.stands in
     let o : InStatics l 2 (BuiltinOf p) w.number = in_statics l 2 (BuiltinOf p) w.number w.known in
     let second : IsRead c.storage (w.number - 2 + 4 * 1) (Code (l.builtin_entry p)) = fixed_word sizes l e s c.storage c.next c.output h.holds.data_held 2 (BuiltinOf p) w.number 1 (Code (l.builtin_entry p)) o refl in
     let address : w.number - 2 + 4 * 1 ≡ moved w.number (pos 2) = omega (arith, o.word) in
     let read : IsRead c.storage (moved w.number (pos 2)) (Code (l.builtin_entry p)) = subst (λ a. IsRead c.storage a (Code (l.builtin_entry p))) address second in
-    header_looked_at words sizes (Calls sizes l e g t s (Lasting (BuiltinV p)) args (l.builtin_entry p)) l e g t s (BuiltinV p) args c h 0x29 (3 + (3 + 11)) (object_code t apply (others_code t look kill)) refl refl refl
+    header_looked_at words sizes (Calls sizes l e g u s (Lasting (BuiltinV p)) args (l.builtin_entry p)) l e g t s (BuiltinV p) args c h 0x29 (3 + (3 + 11)) (object_code t apply (others_code t look kill)) refl refl refl
     (λ a.
-    other_header words sizes (Calls sizes l e g t s (Lasting (BuiltinV p)) args (l.builtin_entry p)) l e g t s (BuiltinV p) args c h 0x29 0x21 (3 + 11) a _ (others_code t look kill) refl
-    (this_header words sizes (Calls sizes l e g t s (Lasting (BuiltinV p)) args (l.builtin_entry p)) l e g t s (BuiltinV p) args c h 0x29 11 a (pass_on t) _
-    (passes_on words sizes l e g t s (Lasting (BuiltinV p)) args c h w.number (l.builtin_entry p) block (Number 0x29) a w.is read there params)))
+    other_header words sizes (Calls sizes l e g u s (Lasting (BuiltinV p)) args (l.builtin_entry p)) l e g t s (BuiltinV p) args c h 0x29 0x21 (3 + 11) a _ (others_code t look kill) refl
+    (this_header words sizes (Calls sizes l e g u s (Lasting (BuiltinV p)) args (l.builtin_entry p)) l e g t s (BuiltinV p) args c h 0x29 11 a (pass_on t) _
+    (passes_on_to words sizes l e g t s (Lasting (BuiltinV p)) args c h u w.number (l.builtin_entry p) block (Number 0x29) a w.is read there params)))
 
 module _ (words : Words) (sizes : Sizes) (l : Layout) (e : Escapes) (g : Ways) (t : ℕ) (s : State) (v : Val) (args : List Val) (c : Core) (apply look kill : ℕ) (h : HoldsCall sizes l e g t s (Lasting v) args c) where
   -- a header of no procedure

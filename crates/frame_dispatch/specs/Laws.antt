@@ -19,11 +19,12 @@ use Rattle.frame_calls.specs.Codes.{call_params}
 use Rattle.frame_calls.specs.Calls.{HoldsCall, Calls}
 use Rattle.frame_dispatch.specs.Codes.{apply_block}
 
+-- the entry has the parameters of calls from some number on
 abbrev pub BuiltinsAreApplied : Type 0
 BuiltinsAreApplied =
-    (words : Words) (sizes : Sizes) (l : Layout) (e : Escapes) (g : Ways) (t : ℕ) (s : State) (p : Builtin) (args : List Val) (c : Core) (apply look kill : ℕ) (block : WordBlock)
-    → HoldsCall sizes l e g t s (Lasting (BuiltinV p)) args c → slice_get words.blocks.items (l.builtin_entry p) ≡ Some block → block.params ≡ call_params t
-    → Performs words sizes (Calls sizes l e g t s (Lasting (BuiltinV p)) args (l.builtin_entry p)) 1 25 (apply_block t apply look kill) c
+    (words : Words) (sizes : Sizes) (l : Layout) (e : Escapes) (g : Ways) (t u : ℕ) (s : State) (p : Builtin) (args : List Val) (c : Core) (apply look kill : ℕ) (block : WordBlock)
+    → HoldsCall sizes l e g t s (Lasting (BuiltinV p)) args c → slice_get words.blocks.items (l.builtin_entry p) ≡ Some block → block.params ≡ call_params u
+    → Performs words sizes (Calls sizes l e g u s (Lasting (BuiltinV p)) args (l.builtin_entry p)) 1 25 (apply_block t apply look kill) c
 
 abbrev pub NotProceduresFail : Type 0
 NotProceduresFail =
