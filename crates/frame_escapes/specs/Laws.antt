@@ -1,5 +1,6 @@
 -- What the end of a CATCH, and calls of escapes, come to.
-use Rattle.std.specs.Prelude.{◌≡◌, ℕ, ◌+◌, ◌*◌, List, [], ◌∷◌, length, slice_get, Some, true, false}
+use Rattle.std.specs.Prelude.{◌≡◌, ℕ, ◌+◌, ◌*◌, ◌==◌, List, [], ◌∷◌, length, slice_get, Some, true, false}
+use Rattle.std.specs.List.{list_any}
 use Rattle.t_base.specs.declared.faults.Fault.TheVariants.{WrongCount, DeadEscape}
 use Rattle.t_prim.specs.Values.{Val, EscapeV}
 use Rattle.word_ir.specs.declared.words.WordBlock.{WordBlock}
@@ -19,7 +20,7 @@ use Rattle.frame_stacks.specs.Laws.{GoesOn, AreParameters, Begins}
 use Rattle.frame_reads.specs.Laws.{Fails}
 use Rattle.frame_calls.specs.Calls.{HoldsCall}
 use Rattle.frame_dispatch.specs.Codes.{kill_params, kill_code, catch_close, apply_block}
-use Rattle.frame_escapes.specs.Ended.{kept_escapes, ended_catches}
+use Rattle.frame_escapes.specs.Ended.{kept_escapes, ended_catches, catches}
 
 abbrev pub CatchesAreClosed : Type 0
 CatchesAreClosed =
@@ -46,3 +47,8 @@ abbrev pub WrongCountsFail : Type 0
 WrongCountsFail =
     (words : Words) (sizes : Sizes) (l : Layout) (e : Escapes) (g : Ways) (t : ℕ) (s : State) (birth : ℕ) (args : List Val) (c : Core) (apply look kill : ℕ)
     → HoldsCall sizes l e g t s (Lasting (EscapeV birth)) args c → (length args ≡ 1 → ⊥) → Performs words sizes (Fails sizes l e s WrongCount) 1 25 (apply_block t apply look kill) c
+
+-- those that end, and those that are left
+abbrev pub CatchesAreCounted : Type 0
+CatchesAreCounted =
+    (s : State) (birth : ℕ) (births : List ℕ) → list_any (λ x. x == birth) births ≡ true → ended_catches s birth births + catches s (older_than birth births) ≡ catches s births
