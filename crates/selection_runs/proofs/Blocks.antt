@@ -123,7 +123,7 @@ module _ (m : Setting) where
   rest_by n c count true lt = omega (arith, lt)
   rest_by n c count false lt = omega (arith, lt)
 
-  among_below : {X : Type 0} (test : X → Bool) (xs : List X) (n k c : ℕ) → number_among test n xs k ≡ Some c → c < n + count_by test xs
+  pub among_below : {X : Type 0} (test : X → Bool) (xs : List X) (n k c : ℕ) → number_among test n xs k ≡ Some c → c < n + count_by test xs
   among_below test [] n k c is = absurd (cc)
   among_below test (x ∷ xs) n zero c is = let e = sum_by-cons (λ z. cond (test z) 1 0) x xs in let lt = among_by test n (test x) (count_by test xs) c is in omega (arith, e, lt)
   among_below test (x ∷ xs) n (suc k) c is =

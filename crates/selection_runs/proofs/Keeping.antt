@@ -33,7 +33,7 @@ not_broken (Ended end) h = refl
 not_broken Stale h = absurd (h Broken refl)
 not_broken Wrong h = absurd (h Broken refl)
 
-abbrev setting : (p : Frames) (words : Words) (sizes : Sizes) (selected : IsSelected p words) → IsPlain p words selected → HasSizes sizes → Setting
+abbrev setting : (p : Frames) (words : Words) (sizes : Sizes) (selected : IsSelected p words) → IsPlain p → HasSizes sizes → Setting
 setting p words sizes selected plain has = record {
   p = p;
   words = words;
@@ -46,7 +46,6 @@ setting p words sizes selected plain has = record {
   stack_words = let e = has.whole.stack in omega (arith, e);
   sound = λ n. not_broken (after (step p) n (start p)).doing (λ e is. plain.proper n e is);
   plain = plain.plain;
-  no_operations = plain.no_operations;
 }
 
 kept_by : (m : Setting) → EndsProperly (runs (a m) (start m.p)) → KeepsWithin (room_of m) most_moves 0 (runs (a m) (start m.p)) (runs (b m) (stamped_start (words_in m.words m.sizes)))

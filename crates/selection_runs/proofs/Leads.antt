@@ -38,6 +38,7 @@ use Rattle.selection_runs.proofs.Ends.{jump_led, return_led, halt_led, if_led}
 use Rattle.selection_runs.proofs.Calling.{call_led}
 use Rattle.selection_runs.proofs.Called.{made_new, closure_called, object_called, none_called}
 use Rattle.selection_runs.proofs.Builtins.{builtin_led}
+use Rattle.selection_runs.proofs.Operations.{codes_at, operation_called, look_led, entering_led}
 
 module _ (m : Setting) (s : State) (x : Stamped) (keeps : Keeps m s) (small : FramesAreSmall m.p.shared.size s) where
   -- ---- operations
@@ -85,16 +86,6 @@ module _ (m : Setting) (s : State) (x : Stamped) (keeps : Keeps m s) (small : Fr
   known_call f args P (inr (inl o)) go = go o.entry.t ((layout_of m).closure_entry o.closure.code) o.calls
   known_call f args P (inr (inr o)) go = go o.entry.t ((layout_of m).builtin_entry o.b) o.calls
 
-  no_operation : (k : ℕ) (args : List Val) → IsCalling m s (Lasting (OperationV k)) args x → ⊥
-  no_operation k args calling = known_call (Lasting (OperationV k)) args ⊥ calling
-      (λ t target o.
-      let h : HoldsCall m.sizes (layout_of m) o.escapes _ t s (Lasting (OperationV k)) args o.calls.core = o.calls.holds in
-      let w : IsLasting (layout_of m) s (Lasting (OperationV k)) h.word = h.stands in
-      let place : InStatics (layout_of m) 2 (OperationOf k) w.number = in_statics (layout_of m) 2 (OperationOf k) w.number w.known in
-      let found = place.found in
-      let none = m.no_operations k in
-      absurd (cc))
-
   no_escape : (k : ℕ) (args : List Val) → IsCalling m s (Lasting (EscapeV k)) args x → ⊥
   no_escape k args calling = known_call (Lasting (EscapeV k)) args ⊥ calling
       (λ t target o.
@@ -107,7 +98,7 @@ module _ (m : Setting) (s : State) (x : Stamped) (keeps : Keeps m s) (small : Fr
   called_led (ClosureV i) args doing calling sound = closure_called m s args x keeps i doing calling sound
   called_led (ObjectV i) args doing calling sound = object_called m s args x keeps i doing calling sound
   called_led (BuiltinV b) args doing calling sound = builtin_led m s args x keeps b doing calling sound
-  called_led (OperationV k) args doing calling sound = absurd (no_operation k args calling)
+  called_led (OperationV k) args doing calling sound = operation_called m s x keeps (codes_at m s) k args doing calling
   called_led (EscapeV k) args doing calling sound = absurd (no_escape k args calling)
   called_led (FixV n) args doing calling sound = none_called m s args x keeps (FixV n) refl doing calling
   called_led (CharV n) args doing calling sound = none_called m s args x keeps (CharV n) refl doing calling
@@ -130,8 +121,8 @@ module _ (m : Setting) (s : State) (x : Stamped) (keeps : Keeps m s) (small : Fr
   advance_led (Running [] last env) e o on sound = end_code_led last env o o.tree o.code refl (ap saved e) sound
   advance_led (Running (op ∷ ops) last env) e o on sound = code_led op ops last env o o.tree o.code refl (ap saved e) sound
   advance_led (Calling f args) e o on sound = called_at_led f args e o sound
-  advance_led (Looking op methods args) e o on sound = absurd o
-  advance_led (Entering code args) e o on sound = absurd o
+  advance_led (Looking op methods args) e o on sound = look_led m s x keeps op methods args e o
+  advance_led (Entering code args) e o on sound = entering_led m s x keeps code args e o
   advance_led (Ended end) e o on sound = absurd (cc)
   advance_led Stale e o on sound = absurd o
   advance_led Wrong e o on sound = absurd o

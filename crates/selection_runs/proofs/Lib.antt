@@ -10,3 +10,4 @@ pub mod Leads
 pub mod Matching
 pub mod Starting
 pub mod Keeping
+pub mod Operations

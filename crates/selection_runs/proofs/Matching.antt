@@ -56,8 +56,10 @@ module _ (m : Setting) where
   is_seen s x (Running ops last env) o =
       record { output = ap (λ y. y.state.output) o.there ∙ o.holds.data_held.output_is; next = ap (λ y. y.state.next) o.there ∙ o.holds.data_held.next_is; end = ap (λ y. y.state.end) o.there }
   is_seen s x (Calling f args) o = seen_calling s f args x (Calling f args) refl o
-  is_seen s x (Looking op methods args) o = absurd o
-  is_seen s x (Entering code args) o = absurd o
+  is_seen s x (Looking op methods args) o =
+      record { output = ap (λ y. y.state.output) o.looks.there ∙ o.looks.holds.call.holds.data_held.output_is; next = ap (λ y. y.state.next) o.looks.there ∙ o.looks.holds.call.holds.data_held.next_is; end = ap (λ y. y.state.end) o.looks.there }
+  is_seen s x (Entering code args) (inl o) = seen_call s o.f o.args _ _ x (Entering code args) refl o.calls
+  is_seen s x (Entering code args) (inr o) = seen_call s o.f o.args _ _ x (Entering code args) refl o.calls
   is_seen s x (Ended end) o =
       record { output = ap (λ y. y.state.output) o.ends.there ∙ o.ends.data_held.output_is; next = ap (λ y. y.state.next) o.ends.there ∙ o.ends.data_held.next_is; end = ap (λ y. y.state.end) o.ends.there }
   is_seen s x Stale o = absurd o

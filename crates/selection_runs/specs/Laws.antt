@@ -11,7 +11,6 @@ use Rattle.frame_ir.specs.declared.forms.Frames.{Frames}
 use Rattle.frame_ir.specs.Running.{run}
 use Rattle.frame_ir.specs.Sizes.{HasSmallFrames, most_frame_words}
 use Rattle.frame_ir.specs.Whole.{IsWhole}
-use Rattle.frame_words.specs.Layouts.{OperationOf, fixed_place}
 use Rattle.word_selection.specs.Selections.{IsSelected}
 use Rattle.selection_steps.specs.Settings.{is_plain_program}
 
@@ -23,13 +22,12 @@ EndsProperly a = (n : ℕ) (e : End) → (a n).end ≡ Some e → IsProper e
 abbrev pub room_for : Frames → Sizes → Room
 room_for p sizes = record { heap = sizes.heap; stack = sizes.stack; frame = most_frame_words p.shared.size }
 
--- Of a whole program with small frames that ends by value or fault alone, without CATCHes, closures in frames and operations.
-pub record IsPlain (p : Frames) (words : Words) (selected : IsSelected p words) : Type 0 where
+-- Of a whole program with small frames that ends by value or fault alone, without CATCHes and closures in frames.
+pub record IsPlain (p : Frames) : Type 0 where
   pub whole : IsWhole p
   pub small : HasSmallFrames p
   pub proper : EndsProperly (run p)
   pub plain : is_plain_program p ≡ true
-  pub no_operations : (o : ℕ) → fixed_place selected.choice.layout (OperationOf o) ≡ None
 
 -- sizes of heap and stack that the machine may have
 pub record HasSizes (sizes : Sizes) : Type 0 where
@@ -39,7 +37,7 @@ pub record HasSizes (sizes : Sizes) : Type 0 where
 
 -- The stamped run keeps it, at 40 moves for each of its moves, as long as there is room; and so does the plain run.
 abbrev pub SelectedKeepsStamped : Type 0
-SelectedKeepsStamped = (p : Frames) (words : Words) (sizes : Sizes) (selected : IsSelected p words) → IsPlain p words selected → HasSizes sizes → KeepsWithin (room_for p sizes) 40 0 (run p) (stamped_words_run words sizes)
+SelectedKeepsStamped = (p : Frames) (words : Words) (sizes : Sizes) → IsSelected p words → IsPlain p → HasSizes sizes → KeepsWithin (room_for p sizes) 40 0 (run p) (stamped_words_run words sizes)
 
 abbrev pub SelectedKeeps : Type 0
-SelectedKeeps = (p : Frames) (words : Words) (sizes : Sizes) (selected : IsSelected p words) → IsPlain p words selected → HasSizes sizes → KeepsWithin (room_for p sizes) 40 0 (run p) (words_run words sizes)
+SelectedKeeps = (p : Frames) (words : Words) (sizes : Sizes) → IsSelected p words → IsPlain p → HasSizes sizes → KeepsWithin (room_for p sizes) 40 0 (run p) (words_run words sizes)

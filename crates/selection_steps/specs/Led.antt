@@ -4,7 +4,7 @@ use Rattle.program_runs.specs.Runs.{Full}
 use Rattle.word_ir.specs.Storage.{HEAP_START}
 use Rattle.word_ir.specs.Stamps.{Stamped}
 use Rattle.frame_ir.specs.Sizes.{most_frame_words}
-use Rattle.frame_ir.specs.States.{Doing, Calling, State}
+use Rattle.frame_ir.specs.States.{Doing, Calling, Looking, Entering, State}
 use Rattle.word_trees.specs.Leads.{Leads}
 use Rattle.selection_steps.specs.Settings.{Setting}
 use Rattle.selection_steps.specs.Related.{Stands}
@@ -13,9 +13,11 @@ use Rattle.selection_steps.specs.Related.{Stands}
 abbrev pub most_moves : ℕ
 most_moves = 40
 
--- what a call saves up for its entry
+-- what a call saves up for what it comes to, and an operation for its method or default
 abbrev pub saved : Doing → ℕ
 saved (Calling f args) = 30 + 30 * length args
+saved (Looking o methods args) = 30 * length args
+saved (Entering code vs) = 3 * length vs
 saved _ = 0
 
 -- what is in use of the room, with what was asked for, is no more than the cost before a step or behind it

@@ -21,7 +21,7 @@ use Rattle.frame_ir.specs.Sizes.{HasSmallFrames, IsSmallOp, most_frame_words}
 use Rattle.frame_ir.specs.States.{Doing, Running, Calling, Looking, Entering, Ended, Stale, Wrong, State}
 use Rattle.frame_ir.specs.Running.{step, start}
 use Rattle.frame_ir.specs.Whole.{IsWhole, most_operands}
-use Rattle.frame_words.specs.Layouts.{Layout, OperationOf, fixed_place}
+use Rattle.frame_words.specs.Layouts.{Layout}
 use Rattle.prim_holds.specs.Operands.{IsNamed}
 use Rattle.word_selection.specs.Codes.{Choice}
 use Rattle.word_selection.specs.Selections.{IsOpNamed, IsClosureCode, IsSelected}
@@ -62,8 +62,6 @@ pub record Setting : Type 0 where
   pub stack_words : sizes.stack % 4 ≡ 0
   pub sound : (n : ℕ) → IsSound (after (step p) n (start p))
   pub plain : is_plain_program p ≡ true
-  -- no operation is named
-  pub no_operations : (o : ℕ) → fixed_place selected.choice.layout (OperationOf o) ≡ None
 
 abbrev pub choice_of : Setting → Choice
 choice_of m = m.selected.choice
