@@ -25,7 +25,7 @@ use Rattle.word_selection.specs.Codes.{end_code}
 use Rattle.word_selection.specs.Selections.{IsBlockOf}
 use Rattle.selection_steps.specs.Settings.{Setting, choice_of, layout_of, IsSound, IsFitEnd}
 use Rattle.selection_steps.specs.Related.{ways_of, Runs, Keeps, Stands}
-use Rattle.selection_steps.specs.Led.{most_moves, saved, Comes, Led}
+use Rattle.selection_steps.specs.Led.{most_moves, saved, caught, paid, Comes, Led}
 use Rattle.selection_steps.proofs.Leading.{AreBelow, below_more, below_now, held_above, held_from, led_by, lookup}
 use Rattle.selection_steps.proofs.Cells.{lasting_by}
 use Rattle.selection_runs.proofs.Blocks.{IsKnown, block_known}
@@ -98,11 +98,11 @@ module _ (m : Setting) where
     pub end_spelled : Spells m.words sp.runs.block sp.runs.place (end_code (choice_of m) m.p.shared sp.t last)
     end_spelled = subst (Spells m.words sp.runs.block sp.runs.place) sp.is sp.runs.spelled
 
-    pub end_led : (u : State) (Q : Stamped → Type 0) (cost : ℕ) → Performs m.words m.sizes Q 1 cost (end_code (choice_of m) m.p.shared sp.t last) sp.runs.core → ((y : Stamped) → Q y → Comes m s u y)
+    pub end_led : (u : State) → caught u.frames u.live ≡ caught s.frames s.live → (Q : Stamped → Type 0) (cost : ℕ) → Performs m.words m.sizes Q 1 cost (end_code (choice_of m) m.p.shared sp.t last) sp.runs.core → ((y : Stamped) → Q y → Comes m s u y)
         → cost + saved u.doing + most_moves * s.moves ≤ most_moves * u.moves → Led m s x u
-    end_led u Q cost performs comes within =
+    end_led u same Q cost performs comes within =
         let none = sp.none in
-        led_by m s u x Q cost (end_code (choice_of m) m.p.shared sp.t last) sp.runs.core sp.runs.block sp.runs.place sp.runs.moves sp.runs.steps end_spelled sp.runs.there performs comes (omega (arith, within, none))
+        led_by m s u x Q cost (end_code (choice_of m) m.p.shared sp.t last) sp.runs.core sp.runs.block sp.runs.place sp.runs.moves sp.runs.steps end_spelled sp.runs.there performs comes (omega (arith, within, none, same))
 
     -- operands with the words of values
     pub has_value : (a : Arg) (v : Value) → IsNamed (layout_of m) m.p.shared a → value_of m.p.shared env a ≡ Some v → HasValue m.words m.sizes (layout_of m) (ways_of m sp.runs.born) sp.t s sp.runs.core (operand_of (layout_of m) m.p.shared a) v

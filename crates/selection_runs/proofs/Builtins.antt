@@ -35,7 +35,7 @@ use Rattle.prim_holds.specs.Laws.{IsFaulted}
 use Rattle.word_selection.specs.Selections.{IsBlockOf, IsEntry}
 use Rattle.selection_steps.specs.Settings.{Setting, choice_of, layout_of, IsSound}
 use Rattle.selection_steps.specs.Related.{ways_of, CallsAt, IsCalling, Keeps}
-use Rattle.selection_steps.specs.Led.{saved, Comes, Led}
+use Rattle.selection_steps.specs.Led.{saved, caught, paid, Comes, Led}
 use Rattle.selection_steps.proofs.Costs.{row_cost}
 use Rattle.selection_steps.proofs.Ending.{ends_by, no_room}
 use Rattle.selection_steps.proofs.Keeping.{store_kept}
@@ -118,20 +118,20 @@ module _ (m : Setting) (s : State) (args : List Val) (x : Stamped) (keeps : Keep
   -- ---- by the row
 
   module _ (doing : s.doing ≡ Calling (Lasting (BuiltinV b)) args) (calling : IsCalling m s (Lasting (BuiltinV b)) args x) where
-    paid : saved s.doing ≡ 30 + 30 * length args
-    paid = ap saved doing
+    has_saved : saved s.doing ≡ 30 + 30 * length args
+    has_saved = ap saved doing
 
-    within : (u : State) → saved u.doing ≡ 0 → u.moves ≡ s.moves + 1 → 25 + entry_cost + saved u.doing + 40 * s.moves ≤ saved s.doing + 40 * u.moves
-    within u none moves = let cost = row_cost b in let n = paid_enough in omega (arith, cost, none, moves, n, few_args)
+    within : (u : State) → saved u.doing ≡ 0 → caught u.frames u.live ≡ caught s.frames s.live → u.moves ≡ s.moves + 1 → 25 + entry_cost + paid u + 40 * s.moves ≤ paid s + 40 * u.moves
+    within u none same moves = let cost = row_cost b in let n = paid_enough in omega (arith, cost, none, same, moves, n, few_args)
       where
         paid_enough : saved s.doing ≡ 30 + 30 * length args
-        paid_enough = paid
+        paid_enough = has_saved
         few_args : 0 ≤ length args
         few_args = omega arith
 
     row_called : (r : Row) → row b args s.store ≡ r → IsSound (after_row r (counted 1 s) (returned m.p)) → Led m s x (after_row r (counted 1 s) (returned m.p))
     row_called (Faults f) is sound =
-        record { cost = 25 + entry_cost; leads = to_entry (faulted f (counted 1 s)) entry_cost (fault_leads f is) calling; moves = within (faulted f (counted 1 s)) refl refl }
+        record { cost = 25 + entry_cost; leads = to_entry (faulted f (counted 1 s)) entry_cost (fault_leads f is) calling; moves = within (faulted f (counted 1 s)) refl refl refl }
     row_called (Gives v) is sound =
         with_pushed (Led m s x) (counted 1 s) (λ birth f. jumped m.p f.back (Lasting v ∷ []) (counted 1 s)) sound
         (λ birth f live found plain sound2.
@@ -141,7 +141,7 @@ module _ (m : Setting) (s : State) (args : List Val) (x : Stamped) (keeps : Keep
           cost = 25 + entry_cost;
           leads = to_entry (begun block (bound block.params (Lasting v ∷ [])) (counted 1 s)) entry_cost
               (value_leads birth f live found block at one (Gives v) is (begun block (bound block.params (Lasting v ∷ [])) (counted 1 s)) (λ e born t z o. given_comes birth f live found block at one v e born t z o)) calling;
-          moves = within (begun block (bound block.params (Lasting v ∷ [])) (counted 1 s)) refl refl;
+          moves = within (begun block (bound block.params (Lasting v ∷ [])) (counted 1 s)) refl refl refl;
         }))
     row_called (Changes store v) is sound =
         with_pushed (Led m s x) (with_store (counted 1 s) store) (λ birth f. jumped m.p f.back (Lasting v ∷ []) (with_store (counted 1 s) store)) sound
@@ -152,7 +152,7 @@ module _ (m : Setting) (s : State) (args : List Val) (x : Stamped) (keeps : Keep
           cost = 25 + entry_cost;
           leads = to_entry (begun block (bound block.params (Lasting v ∷ [])) (with_store (counted 1 s) store)) entry_cost
               (value_leads birth f live found block at one (Changes store v) is (begun block (bound block.params (Lasting v ∷ [])) (with_store (counted 1 s) store)) (λ e born t z o. changed_comes birth f live found block at one store v is e born t z o)) calling;
-          moves = within (begun block (bound block.params (Lasting v ∷ [])) (with_store (counted 1 s) store)) refl refl;
+          moves = within (begun block (bound block.params (Lasting v ∷ [])) (with_store (counted 1 s) store)) refl refl refl;
         }))
 
     pub builtin_led : IsSound (called m.p (BuiltinV b) args (counted 1 s)) → Led m s x (called m.p (BuiltinV b) args (counted 1 s))

@@ -36,7 +36,7 @@ use Rattle.frame_dispatch.proofs.Then.{leads_then, any_leads}
 use Rattle.word_selection.specs.Selections.{IsEntry, IsClosureCode}
 use Rattle.selection_steps.specs.Settings.{Setting, choice_of, layout_of, IsSound}
 use Rattle.selection_steps.specs.Related.{ways_of, CallsAt, CallsClosure, CallsBuiltin, IsCalling, IsNew, Keeps}
-use Rattle.selection_steps.specs.Led.{most_moves, saved, Comes, Led}
+use Rattle.selection_steps.specs.Led.{most_moves, saved, caught, Comes, Led}
 use Rattle.selection_steps.proofs.Leading.{lookup}
 use Rattle.selection_steps.proofs.Ending.{ends_by}
 use Rattle.selection_runs.proofs.Counted.{calls_counted}
@@ -125,6 +125,13 @@ module _ (m : Setting) (s : State) (args : List Val) (x : Stamped) (keeps : Keep
       by_test true = refl
       by_test false = refl
 
+  caught_same : (f : Value) (b : Block) → caught (begun_to f b).frames (begun_to f b).live ≡ caught s.frames s.live
+  caught_same f b = by_test (length b.params == length (f ∷ map Lasting args))
+    where
+      by_test : (q : Bool) → caught (if q then begun b (bound b.params (f ∷ map Lasting args)) (counted 1 s) else faulted WrongCount (counted 1 s)).frames (if q then begun b (bound b.params (f ∷ map Lasting args)) (counted 1 s) else faulted WrongCount (counted 1 s)).live ≡ caught s.frames s.live
+      by_test true = refl
+      by_test false = refl
+
   pub closure_called : (i : ℕ) → s.doing ≡ Calling (Lasting (ClosureV i)) args → IsCalling m s (Lasting (ClosureV i)) args x → IsSound (called m.p (ClosureV i) args (counted 1 s)) → Led m s x (called m.p (ClosureV i) args (counted 1 s))
   closure_called i doing calling sound =
       lookup (Led m s x) (slice_get s.closures i) (counted 1 s) (λ c. entered m.p c.code (Lasting (ClosureV i) ∷ map Lasting args) (counted 1 s)) sound
@@ -134,7 +141,8 @@ module _ (m : Setting) (s : State) (args : List Val) (x : Stamped) (keeps : Keep
       let paid : saved s.doing ≡ 30 + 30 * length args = ap saved doing in
       let moves = moves_of (Lasting (ClosureV i)) b in
       let none = saves_none (Lasting (ClosureV i)) b in
-      record { cost = 19 + (5 + 3 * length args); leads = closure_leads i c there b found calling; moves = omega (arith, paid, moves, none) }))
+      let same = caught_same (Lasting (ClosureV i)) b in
+      record { cost = 19 + (5 + 3 * length args); leads = closure_leads i c there b found calling; moves = omega (arith, paid, moves, none, same) }))
 
   -- ---- objects
 

@@ -90,7 +90,7 @@ module _ (m : Setting) (s : State) (f : Arg) (args : List Arg) (env : Env) (x : 
         let k = value_count args vs given in
         let few = sp.runs.fits_end.shaped.0 in
         let found : slice_get m.words.blocks.items (call_target (choice_of m) m.p.shared f) ≡ Some block = subst (λ z. slice_get m.words.blocks.items z ≡ Some block) (sym to) there in
-        end_led m s (Last.Call f args) env x sp calling
+        end_led m s (Last.Call f args) env x sp calling refl
         (Calls m.sizes (layout_of m) sp.runs.escapes (ways_of m sp.runs.born) u s g vs (call_target (choice_of m) m.p.shared f)) (9 + 3 * length (map (operand_of (layout_of m) m.p.shared) args))
         (call_performs m.words m.sizes (layout_of m) sp.runs.escapes (ways_of m sp.runs.born) sp.t u s env sp.runs.core (call_target (choice_of m) m.p.shared f) block (operand_of (layout_of m) m.p.shared f) g (map (operand_of (layout_of m) m.p.shared) args) vs
         (end_held m s (Last.Call f args) env x sp) (has_value m s (Last.Call f args) env x sp f g sp.runs.fits_end.args.0 value) (operands_are args vs sp.runs.fits_end.args.1 given) (omega (arith, n, few)) found params)

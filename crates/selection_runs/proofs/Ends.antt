@@ -48,7 +48,7 @@ module _ (m : Setting) (s : State) (env : Env) (x : Stamped) where
       let h : IsBlockOf (choice_of m) m.p m.words block b = m.selected.blocks.blocks block b at in
       let known : IsKnown m b = block_known m block b at in
       let many = length-map args (operand_of (layout_of m) m.p.shared) in
-      end_led m s (Last.Jump block args) env x sp (begun b (bound b.params vs) (counted (1 + length args) s))
+      end_led m s (Last.Jump block args) env x sp (begun b (bound b.params vs) (counted (1 + length args) s)) refl
       (Begins m.sizes (layout_of m) sp.runs.escapes (ways_of m sp.runs.born) sp.t s (bound h.target.params vs) block) (1 + length (map (operand_of (layout_of m) m.p.shared) args))
       (jump_performs m.words m.sizes (layout_of m) sp.runs.escapes (ways_of m sp.runs.born) sp.t s env sp.runs.core block h.target (map (operand_of (layout_of m) m.p.shared) args) vs (end_held m s (Last.Jump block args) env x sp)
       (have_values m s (Last.Jump block args) env x sp args vs sp.runs.fits_end.args given) h.there (ap length h.params ∙ same) (subst (AreParameters sp.t) (sym h.params) (parameters_from (choice_of m).free sp.t b.params sp.above known.params)))
@@ -68,7 +68,7 @@ module _ (m : Setting) (s : State) (env : Env) (x : Stamped) where
       (λ b at same.
       let h : IsBlockOf (choice_of m) m.p m.words f.back b = m.selected.blocks.blocks f.back b at in
       let known : IsKnown m b = block_known m f.back b at in
-      end_led m s (Last.Return value) env x sp (begun b (bound b.params (Lasting v ∷ [])) (counted 2 s))
+      end_led m s (Last.Return value) env x sp (begun b (bound b.params (Lasting v ∷ [])) (counted 2 s)) refl
       (Begins m.sizes (layout_of m) sp.runs.escapes (ways_of m sp.runs.born) sp.t s (bound h.target.params (Lasting v ∷ [])) f.back) 5
       (return_performs m.words m.sizes (layout_of m) sp.runs.escapes (ways_of m sp.runs.born) sp.t s env sp.runs.core birth (older_than_youngest s.live) f h.target (operand_of (layout_of m) m.p.shared value) (Lasting v) (end_held m s (Last.Return value) env x sp)
       (has_lasting m s (Last.Return value) env x sp value v sp.runs.fits_end.args.0 given) live found h.there (ap length h.params ∙ same) (subst (AreParameters sp.t) (sym h.params) (parameters_from (choice_of m).free sp.t b.params sp.above known.params)))
@@ -87,7 +87,7 @@ module _ (m : Setting) (s : State) (env : Env) (x : Stamped) where
   halt_led value sp sound =
       lookup (Led m s x) (lasting_value m.p.shared env value) s (λ v. going (Ended (runs.Value (shown_of s.store v))) (counted 2 s)) sound
       (λ v given sound2.
-      end_led m s (Last.Halt value) env x sp (going (Ended (runs.Value (shown_of s.store v))) (counted 2 s))
+      end_led m s (Last.Halt value) env x sp (going (Ended (runs.Value (shown_of s.store v))) (counted 2 s)) refl
       (EndsWith m.sizes (layout_of m) sp.runs.escapes s (runs.Value (shown_of s.store v))) 2
       (halt_performs m.words m.sizes (layout_of m) sp.runs.escapes (ways_of m sp.runs.born) sp.t s env sp.runs.core (operand_of (layout_of m) m.p.shared value) v (end_held m s (Last.Halt value) env x sp) (listed_now sp.keeps)
       (has_lasting m s (Last.Halt value) env x sp value v sp.runs.fits_end.args.0 given) m.selected.statics.few_names)

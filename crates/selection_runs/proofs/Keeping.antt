@@ -43,7 +43,7 @@ setting p words sizes selected plain has = record {
   small = plain.small;
   heap = has.heap;
   stack = has.stack;
-  stack_words = let e = has.whole.stack in omega (arith, e);
+  whole_sizes = has.whole;
   sound = λ n. not_broken (after (step p) n (start p)).doing (λ e is. plain.proper n e is);
   plain = plain.plain;
 }

@@ -33,14 +33,16 @@ use Rattle.selection_steps.proofs.Things.{cell_led, object_led}
 use Rattle.selection_steps.proofs.Prims.{prim_led}
 use Rattle.selection_steps.proofs.Pushes.{push_led}
 use Rattle.selection_steps.proofs.Closures.{group_led}
+use Rattle.selection_steps.proofs.Catches.{catch_open_led, catch_close_led}
 use Rattle.selection_runs.proofs.Begun.{EndSpot}
 use Rattle.selection_runs.proofs.Ends.{jump_led, return_led, halt_led, if_led}
 use Rattle.selection_runs.proofs.Calling.{call_led}
-use Rattle.selection_runs.proofs.Called.{made_new, closure_called, object_called, none_called}
+use Rattle.selection_runs.proofs.Called.{closure_called, object_called, none_called}
 use Rattle.selection_runs.proofs.Builtins.{builtin_led}
+use Rattle.selection_runs.proofs.Escaping.{escape_led}
 use Rattle.selection_runs.proofs.Operations.{codes_at, operation_called, look_led, entering_led}
 
-module _ (m : Setting) (s : State) (x : Stamped) (keeps : Keeps m s) (small : FramesAreSmall m.p.shared.size s) where
+module _ (m : Setting) (s : State) (x : Stamped) (keeps : Keeps m s) (small : FramesAreSmall m.p.shared.size s) (marks : length x.marks.longs.heap ≡ length x.state.storage.heap) where
   -- ---- operations
 
   act_led : (op : FrameOp) (ops : List FrameOp) (last : FrameEnd) (env : Env) → Spot m s op ops last env x → makings (op ∷ ops) ≡ [] → IsSound (performed m.p (op ∷ ops) last env s) → Led m s x (performed m.p (op ∷ ops) last env s)
@@ -55,14 +57,14 @@ module _ (m : Setting) (s : State) (x : Stamped) (keeps : Keeps m s) (small : Fr
   act_led (Op.GlobalPut global value first) ops last env sp none sound = global_put_led m s ops last env x global value first sp sound
   act_led (Op.Push kept back) ops last env sp none sound = push_led m s ops last env x kept back sp sound
   act_led Op.Pop ops last env sp none sound = pop_led m s ops last env x sp sound
-  act_led (Op.CatchOpen to back) ops last env sp none sound = absurd (let plain : is_plain (Op.CatchOpen to back) ≡ true = sp.runs.fits.0.plain in cc)
-  act_led Op.CatchClose ops last env sp none sound = absurd (let plain : is_plain Op.CatchClose ≡ true = sp.runs.fits.0.plain in cc)
+  act_led (Op.CatchOpen to back) ops last env sp none sound = catch_open_led m s ops last env x to back sp
+  act_led Op.CatchClose ops last env sp none sound = catch_close_led m s ops last env x sp sound
   act_led (Op.Object to template proc kept) ops last env sp none sound = object_led m s ops last env x to template proc kept sp sound
 
   code_led : (op : FrameOp) (ops : List FrameOp) (last : FrameEnd) (env : Env) (r : Runs m s (op ∷ ops) last env x) (tree : Tree) → IsCode (choice_of m) m.p.shared (op ∷ ops) last tree → r.tree ≡ tree → saved s.doing ≡ 0
       → IsSound (performed m.p (op ∷ ops) last env s) → Led m s x (performed m.p (op ∷ ops) last env s)
   code_led op ops last env r tree (does t op2 ops2 end rest tree2 above closures is next) same none sound =
-      act_led op ops last env (record { runs = r; keeps = keeps; none = none; small = small; t = t; above = above; rest = rest; is = same ∙ is; next = next }) closures sound
+      act_led op ops last env (record { runs = r; keeps = keeps; none = none; small = small; marks = marks; t = t; above = above; rest = rest; is = same ∙ is; next = next }) closures sound
   code_led op ops last env r tree (makes t to code kept at ops2 end rest tree2 above is next) same none sound =
       group_led m s to code kept at ops last env x r keeps none t above rest (same ∙ is) next sound
 
@@ -80,26 +82,12 @@ module _ (m : Setting) (s : State) (x : Stamped) (keeps : Keeps m s) (small : Fr
 
   -- ---- calls
 
-  -- what is called is known
-  known_call : (f : Value) (args : List Val) (P : Type 0) → IsCalling m s f args x → ((t target : ℕ) → CallsAt m s f args t target x → P) → P
-  known_call f args P (inl o) go = go m.selected.blocks.apply.t (choice_of m).apply o
-  known_call f args P (inr (inl o)) go = go o.entry.t ((layout_of m).closure_entry o.closure.code) o.calls
-  known_call f args P (inr (inr o)) go = go o.entry.t ((layout_of m).builtin_entry o.b) o.calls
-
-  no_escape : (k : ℕ) (args : List Val) → IsCalling m s (Lasting (EscapeV k)) args x → ⊥
-  no_escape k args calling = known_call (Lasting (EscapeV k)) args ⊥ calling
-      (λ t target o.
-      let h : HoldsCall m.sizes (layout_of m) o.escapes _ t s (Lasting (EscapeV k)) args o.calls.core = o.calls.holds in
-      let w : IsLasting (layout_of m) s (Lasting (EscapeV k)) h.word = h.stands in
-      let place : OnHeap s 2 (AnEscape k) w.number = on_heap s 2 (AnEscape k) w.number w.known in
-      made_new m s keeps (AnEscape k) place.place place.found)
-
   called_led : (v : Val) (args : List Val) → s.doing ≡ Calling (Lasting v) args → IsCalling m s (Lasting v) args x → IsSound (called m.p v args (counted 1 s)) → Led m s x (called m.p v args (counted 1 s))
   called_led (ClosureV i) args doing calling sound = closure_called m s args x keeps i doing calling sound
   called_led (ObjectV i) args doing calling sound = object_called m s args x keeps i doing calling sound
   called_led (BuiltinV b) args doing calling sound = builtin_led m s args x keeps b doing calling sound
   called_led (OperationV k) args doing calling sound = operation_called m s x keeps (codes_at m s) k args doing calling
-  called_led (EscapeV k) args doing calling sound = absurd (no_escape k args calling)
+  called_led (EscapeV k) args doing calling sound = escape_led m s args x keeps k doing calling sound
   called_led (FixV n) args doing calling sound = none_called m s args x keeps (FixV n) refl doing calling
   called_led (CharV n) args doing calling sound = none_called m s args x keeps (CharV n) refl doing calling
   called_led NilV args doing calling sound = none_called m s args x keeps NilV refl doing calling

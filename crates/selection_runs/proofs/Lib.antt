@@ -1,4 +1,5 @@
 pub mod Blocks
+pub mod Marks
 pub mod Begun
 pub mod Counted
 pub mod Ends
@@ -6,6 +7,7 @@ pub mod Calling
 pub mod Entered
 pub mod Called
 pub mod Builtins
+pub mod Escaping
 pub mod Leads
 pub mod Matching
 pub mod Starting

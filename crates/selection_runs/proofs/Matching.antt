@@ -1,5 +1,5 @@
 -- Each step of the frames is matched by steps of the words, or these run out of room.
-use Rattle.std.proofs.Common.{◌≡◌, ℕ, suc, ◌+◌, ◌-◌, ◌*◌, ◌/◌, ◌<◌, ◌≤◌, ◌⊎◌, inl, inr, Bool, true, false, List, [], ◌∷◌, length, Option, Some, None, refl, sym, ap, ◌∙◌, subst, arith}
+use Rattle.std.proofs.Common.{◌≡◌, ℕ, suc, ◌+◌, ◌-◌, ◌*◌, ◌/◌, ◌<◌, ◌≤◌, ◌⊎◌, inl, inr, Bool, true, false, List, [], ◌∷◌, length, Option, Some, None, refl, sym, ap, ◌∙◌, subst, arith, ⊎_elim}
 use Rattle.program_runs.specs.Runs.{End, Full}
 use Rattle.program_runs.specs.Keeps.{HasCost}
 use Rattle.program_runs.specs.Follows.{Alike, IsMachine, after, Machine, runs, CostsBetween, Matched, RunsOut, SimulatesWithin}
@@ -18,8 +18,9 @@ use Rattle.word_trees.specs.Cores.{Core}
 use Rattle.frame_words.specs.Holding.{HoldsData}
 use Rattle.selection_steps.specs.Settings.{Setting, layout_of, room_of, IsSound}
 use Rattle.selection_steps.specs.Related.{CallsAt, IsCalling, IsDoing, Stands, Related}
-use Rattle.selection_steps.specs.Led.{most_moves, saved, IsAsked, NoRoom, Comes, Led}
+use Rattle.selection_steps.specs.Led.{most_moves, paid, IsAsked, NoRoom, Comes, Led}
 use Rattle.selection_runs.proofs.Leads.{advance_led}
+use Rattle.selection_runs.proofs.Marks.{marks_after}
 
 module _ (m : Setting) where
   abbrev pub a : Machine State
@@ -29,7 +30,7 @@ module _ (m : Setting) where
   b = record { step = stamped_step (words_in m.words m.sizes); seen = stamped_seen (words_in m.words m.sizes) }
 
   abbrev pub potential : State → Stamped → ℕ
-  potential s x = saved s.doing
+  potential s x = paid s
 
   abbrev pub measure : State → ℕ
   measure s = 0
@@ -88,11 +89,12 @@ module _ (m : Setting) where
   comes_matched s x r o (inl stands) =
       let more = o.leads.moves in
       let within = o.moves in
+      let later = marks_after (words_in m.words m.sizes) o.leads.count x r.in_place r.marks in
       let now = is_seen (step m.p s) (after b.step o.leads.count x) (step m.p s).doing stands.1 in
       let low = words_taken (after b.step o.leads.count x).state.next (step m.p s).store.heap now.next in
       inl (record {
         count = o.leads.count;
-        related = record { count = suc r.count; reached = ap (step m.p) r.reached ∙ sym (after_last (step m.p) r.count (start m.p)); stands = stands };
+        related = record { count = suc r.count; reached = ap (step m.p) r.reached ∙ sym (after_last (step m.p) r.count (start m.p)); stands = stands; in_place = later.0; marks = later.1 };
         goes = inl o.leads.enough;
         moves = omega (arith, more, within);
         costs = λ i some le. record { heap = inr (heap_below x o.leads.count i (step m.p s).store.heap le low); waiting = inl (omega arith) };
@@ -101,13 +103,12 @@ module _ (m : Setting) where
       let more = o.leads.moves in
       let within = o.moves in
       let grows = (is_machine m.p s).0 in
-      let low = none.heap in
       inr (record {
         count = o.leads.count;
         full = (Full none.stack none.asked none.left, none.end, cost none.stack none.enough none.lacking);
         output = prefix_trans _ _ _ (prefix_of_eq _ _ none.output) grows.output;
         moves = omega (arith, more, within);
-        costs = λ i some le. record { heap = inl (heap_below x o.leads.count i s.store.heap le low); waiting = inl (omega arith) };
+        costs = λ i some le. record { heap = ⊎_elim (λ low. inl (heap_below x o.leads.count i s.store.heap le low)) (λ low. inr (heap_below x o.leads.count i (step m.p s).store.heap le low)) none.heap; waiting = inl (omega arith) };
       })
     where
       cost : (stack : Bool) → IsAsked m s (step m.p s) stack none.asked none.left → none.left < none.asked → HasCost (room_of m) (runs a s) (Full stack none.asked none.left)
@@ -122,7 +123,7 @@ module _ (m : Setting) where
 
   pub matched : (s : State) (x : Stamped) → Related m s x → (seen s).end ≡ None → Matched a b (Related m) measure potential most_moves s x ⊎ RunsOut (room_of m) a b potential most_moves s x
   matched s x r on =
-      let o : Led m s x (step m.p s) = advance_led m s x r.stands.0 (small_now s r.count r.reached) s.doing refl r.stands.1 on (sound_next s r.count r.reached) in
+      let o : Led m s x (step m.p s) = advance_led m s x r.stands.0 (small_now s r.count r.reached) r.marks.heap s.doing refl r.stands.1 on (sound_next s r.count r.reached) in
       comes_matched s x r o o.leads.there
 
   pub simulates : SimulatesWithin (room_of m) a b (Related m) measure potential most_moves

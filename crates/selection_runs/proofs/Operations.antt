@@ -40,7 +40,7 @@ use Rattle.frame_operations.proofs.Methods.{method_found, method_passed, default
 use Rattle.word_selection.specs.Selections.{IsBlockOf, IsEntry, IsClosureCode}
 use Rattle.selection_steps.specs.Settings.{Setting, choice_of, layout_of, IsSound}
 use Rattle.selection_steps.specs.Related.{ways_of, CallsAt, IsCalling, LooksAt, EntersMethod, EntersDefault, Keeps}
-use Rattle.selection_steps.specs.Led.{saved, Comes, Led}
+use Rattle.selection_steps.specs.Led.{saved, caught, Comes, Led}
 use Rattle.selection_steps.proofs.Leading.{lookup}
 use Rattle.selection_steps.proofs.Ending.{ends_by}
 use Rattle.selection_runs.proofs.Blocks.{each_in, among_below, IsKnown, block_known}
@@ -281,6 +281,10 @@ module _ (m : Setting) where
       behind_saves vs true = refl
       behind_saves vs false = refl
 
+      behind_caught : (vs : List Value) (same : Bool) → caught (behind vs same).frames (behind vs same).live ≡ caught s.frames s.live
+      behind_caught vs true = refl
+      behind_caught vs false = refl
+
       method_by : (e : Escapes) (born : ℕ → ℕ) (f : Value) (args : List Val) (entry : IsEntry (choice_of m) m.words ((layout_of m).method_entry code) call_params (λ t. method_code t (length b.params) ((choice_of m).begins code))) (same : Bool)
           → (length b.params == length (map Lasting args)) ≡ same → Calls m.sizes (layout_of m) e (ways_of m born) entry.t s f args ((layout_of m).method_entry code) x → Leads m.words m.sizes (Comes m s (behind (map Lasting args) same)) 1 (5 + 3 * length args) x
       method_by e born f args entry true eq o =
@@ -308,8 +312,9 @@ module _ (m : Setting) where
           let paid : saved s.doing ≡ 3 * length vs = ap saved doing in
           let moves = behind_moves vs (length b.params == length vs) in
           let none = behind_saves vs (length b.params == length vs) in
+          let same = behind_caught vs (length b.params == length vs) in
           subst (λ o. Led m s x (or_wrong o (counted 1 s) (λ c. if length c.params == length vs then begun c (bound c.params vs) (counted 1 s) else faulted WrongCount (counted 1 s)))) (sym found)
-          (record { cost = cost; leads = leads; moves = omega (arith, paid, moves, none, within) })
+          (record { cost = cost; leads = leads; moves = omega (arith, paid, moves, none, within, same) })
 
     method_entered : (code : ℕ) (vs : List Value) → s.doing ≡ Entering code vs → EntersMethod m s code vs x → Led m s x (entered m.p code vs (counted 1 s))
     method_entered code vs doing q =

@@ -12,6 +12,8 @@ use Rattle.word_ir.specs.Storage.{Regions, HEAP_START, STACK_START, static_at, l
 use Rattle.word_ir.specs.State.{static_word}
 use Rattle.word_ir.specs.Step.{words_in}
 use Rattle.word_ir.specs.Stamps.{Stamp, Stamped, stamped_start}
+use Rattle.word_ir.proofs.MarksKept.{start_has_marks}
+use Rattle.word_ir.proofs.Places.{start_in_place}
 use Rattle.frame_ir.specs.declared.forms.Block.{Block}
 use Rattle.frame_ir.specs.Values.{Value, Closure, Env}
 use Rattle.frame_ir.specs.States.{State, Running}
@@ -30,6 +32,7 @@ use Rattle.frame_stacks.proofs.Gets.{no_frames}
 use Rattle.frame_calls.proofs.Statics.{front_read}
 use Rattle.selection_steps.specs.Settings.{Setting, choice_of, layout_of, IsSound}
 use Rattle.selection_steps.specs.Related.{ways_of, Keeps, Stands, Related}
+use Rattle.selection_steps.specs.Led.{paid}
 use Rattle.selection_runs.proofs.Begun.{begun_stands, with_jumped}
 
 -- ---- closures of blocks
@@ -138,7 +141,7 @@ module _ (m : Setting) where
   holds_first : Holds m.sizes l no_escapes (ways_of m nobody) (choice_of m).free bare [] first_core
   holds_first = record {
     data_held = data_first;
-    frames = no_frames m.sizes l (ways_of m nobody) bare m.stack_words m.stack refl;
+    frames = no_frames m.sizes l (ways_of m nobody) bare (let e = m.whole_sizes.stack in omega (arith, e)) m.stack refl;
     escapes = record {
       inner = inner_first;
       made = λ birth live caught. absurd (cc);
@@ -180,8 +183,10 @@ module _ (m : Setting) where
     count = 0;
     reached = refl;
     stands = with_jumped m (λ u. Stands m u (stamped_start (words_in m.words m.sizes))) m.p.entry [] bare (m.sound 0) (λ b found same. starts b found);
+    in_place = start_in_place (words_in m.words m.sizes) m.whole_sizes;
+    marks = start_has_marks (words_in m.words m.sizes);
   }
 
   -- nothing is taken, nobody waits
-  pub start_bare : ((start m.p).moves ≡ 0) × ((start m.p).store.heap ≡ 0) × (Rattle.selection_steps.specs.Led.saved (start m.p).doing ≡ 0)
-  start_bare = with_jumped m (λ u. (u.moves ≡ 0) × (u.store.heap ≡ 0) × (Rattle.selection_steps.specs.Led.saved u.doing ≡ 0)) m.p.entry [] bare (m.sound 0) (λ b found same. (refl, refl, refl))
+  pub start_bare : ((start m.p).moves ≡ 0) × ((start m.p).store.heap ≡ 0) × (paid (start m.p) ≡ 0)
+  start_bare = with_jumped m (λ u. (u.moves ≡ 0) × (u.store.heap ≡ 0) × (paid u ≡ 0)) m.p.entry [] bare (m.sound 0) (λ b found same. (refl, refl, refl))

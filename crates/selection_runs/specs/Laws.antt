@@ -22,7 +22,7 @@ EndsProperly a = (n : ℕ) (e : End) → (a n).end ≡ Some e → IsProper e
 abbrev pub room_for : Frames → Sizes → Room
 room_for p sizes = record { heap = sizes.heap; stack = sizes.stack; frame = most_frame_words p.shared.size }
 
--- Of a whole program with small frames that ends by value or fault alone, without CATCHes and closures in frames.
+-- A whole program with small frames, none of which has a closure, whose run ends by value or fault alone.
 pub record IsPlain (p : Frames) : Type 0 where
   pub whole : IsWhole p
   pub small : HasSmallFrames p

@@ -50,7 +50,7 @@ module _ (m : Setting) (s : State) (ops : List FrameOp) (last : FrameEnd) (env :
   closure_led i c w is there captured =
       let above = sp.above in
       let lt = lower in
-      spot_led m s (Op.ClosureGet to from slot) ops last env x sp (behind w)
+      spot_led m s (Op.ClosureGet to from slot) ops last env x sp (behind w) refl
       (GoesOn m.words m.sizes (layout_of m) sp.runs.escapes (ways_of m sp.runs.born) sp.t s ((to.0, w) ∷ env) sp.rest) 2
       (closure_read m.words m.sizes (layout_of m) sp.runs.escapes (ways_of m sp.runs.born) sp.t s env sp.runs.core to from i slot c w sp.rest (held m s (Op.ClosureGet to from slot) ops last env x sp) is there captured (omega (arith, lt, above)))
       (λ y o. goes_on m s (Op.ClosureGet to from slot) ops last env x sp s sp.runs.escapes sp.runs.born ((to.0, w) ∷ env) (s.moves + 2) y (below_more (choice_of m).free env to.0 w lt (below m s (Op.ClosureGet to from slot) ops last env x sp)) sp.keeps o)
@@ -60,7 +60,7 @@ module _ (m : Setting) (s : State) (ops : List FrameOp) (last : FrameEnd) (env :
   object_led i c w is there captured =
       let above = sp.above in
       let lt = lower in
-      spot_led m s (Op.ClosureGet to from slot) ops last env x sp (behind w)
+      spot_led m s (Op.ClosureGet to from slot) ops last env x sp (behind w) refl
       (GoesOn m.words m.sizes (layout_of m) sp.runs.escapes (ways_of m sp.runs.born) sp.t s ((to.0, w) ∷ env) sp.rest) 2
       (object_read m.words m.sizes (layout_of m) sp.runs.escapes (ways_of m sp.runs.born) sp.t s env sp.runs.core to from i slot c w sp.rest (held m s (Op.ClosureGet to from slot) ops last env x sp) is there captured (omega (arith, lt, above)))
       (λ y o. goes_on m s (Op.ClosureGet to from slot) ops last env x sp s sp.runs.escapes sp.runs.born ((to.0, w) ∷ env) (s.moves + 2) y (below_more (choice_of m).free env to.0 w lt (below m s (Op.ClosureGet to from slot) ops last env x sp)) sp.keeps o)

@@ -68,7 +68,7 @@ module _ (m : Setting) where
     lacking = lacking;
     enough = enough;
     output = ap (λ z. z.state.output) there ∙ output;
-    heap = taken_words y.state.next s.store.heap (ap (λ z. z.state.next) there ∙ next);
+    heap = inl (taken_words y.state.next s.store.heap (ap (λ z. z.state.next) there ∙ next));
   }
 
   -- in front of a state that has as much of the heap as a second one

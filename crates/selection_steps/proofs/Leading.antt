@@ -24,7 +24,7 @@ use Rattle.prim_holds.proofs.Keeping.{count_free}
 use Rattle.word_selection.specs.Codes.{IsCode, op_code}
 use Rattle.selection_steps.specs.Settings.{Setting, choice_of, layout_of, IsSound, IsFit, AreFit, IsFitEnd}
 use Rattle.selection_steps.specs.Related.{ways_of, Runs, HasEnded, Keeps, Stands}
-use Rattle.selection_steps.specs.Led.{most_moves, saved, Comes, Led}
+use Rattle.selection_steps.specs.Led.{most_moves, saved, caught, paid, Comes, Led}
 
 -- ---- what must be there
 
@@ -72,7 +72,7 @@ module _ (m : Setting) where
   -- ---- what follows where the code is performed
 
   pub led_by : (s u : State) (x : Stamped) (Q : Stamped → Type 0) (cost : ℕ) (tree : Tree) (c : Core) (block place moves steps : ℕ) → Spells m.words block place tree → x ≡ at c block place moves steps
-      → Performs m.words m.sizes Q 1 cost tree c → ((y : Stamped) → Q y → Comes m s u y) → cost + saved u.doing + most_moves * s.moves ≤ saved s.doing + most_moves * u.moves → Led m s x u
+      → Performs m.words m.sizes Q 1 cost tree c → ((y : Stamped) → Q y → Comes m s u y) → cost + paid u + most_moves * s.moves ≤ paid s + most_moves * u.moves → Led m s x u
   led_by s u x Q cost tree c block place moves steps spelled there performs comes within =
       let o : Leads m.words m.sizes Q 1 cost (at c block place moves steps) = performs.leads block place moves steps spelled in
       subst (λ y. Led m s y u) (sym there)
@@ -85,6 +85,7 @@ module _ (m : Setting) where
     pub keeps : Keeps m s
     pub none : saved s.doing ≡ 0
     pub small : FramesAreSmall m.p.shared.size s
+    pub marks : length x.marks.longs.heap ≡ length x.state.storage.heap
     pub t : ℕ
     pub above : free ≤ t
     pub rest : Tree
@@ -109,12 +110,16 @@ module _ (m : Setting) where
     pub below : AreBelow free env
     below = below_now sp.runs.escapes (ways_of m sp.runs.born) free s env sp.runs.core sp.runs.holds
 
-    pub spot_led : (u : State) (Q : Stamped → Type 0) (cost : ℕ) → Performs m.words m.sizes Q 1 cost (op_code (choice_of m) m.p.shared sp.t op ops sp.rest) sp.runs.core → ((y : Stamped) → Q y → Comes m s u y)
-        → cost + saved u.doing + most_moves * s.moves ≤ most_moves * u.moves → Led m s x u
-    spot_led u Q cost performs comes within =
+    pub spot_led_by : (u : State) (Q : Stamped → Type 0) (cost : ℕ) → Performs m.words m.sizes Q 1 cost (op_code (choice_of m) m.p.shared sp.t op ops sp.rest) sp.runs.core → ((y : Stamped) → Q y → Comes m s u y)
+        → cost + paid u + most_moves * s.moves ≤ paid s + most_moves * u.moves → Led m s x u
+    spot_led_by u Q cost performs comes within =
         let spelled : Spells m.words sp.runs.block sp.runs.place (op_code (choice_of m) m.p.shared sp.t op ops sp.rest) = subst (Spells m.words sp.runs.block sp.runs.place) sp.is sp.runs.spelled in
-        let none = sp.none in
-        led_by s u x Q cost (op_code (choice_of m) m.p.shared sp.t op ops sp.rest) sp.runs.core sp.runs.block sp.runs.place sp.runs.moves sp.runs.steps spelled sp.runs.there performs comes (omega (arith, within, none))
+        led_by s u x Q cost (op_code (choice_of m) m.p.shared sp.t op ops sp.rest) sp.runs.core sp.runs.block sp.runs.place sp.runs.moves sp.runs.steps spelled sp.runs.there performs comes within
+
+    -- no CATCH is opened or closed
+    pub spot_led : (u : State) → caught u.frames u.live ≡ caught s.frames s.live → (Q : Stamped → Type 0) (cost : ℕ) → Performs m.words m.sizes Q 1 cost (op_code (choice_of m) m.p.shared sp.t op ops sp.rest) sp.runs.core → ((y : Stamped) → Q y → Comes m s u y)
+        → cost + saved u.doing + most_moves * s.moves ≤ most_moves * u.moves → Led m s x u
+    spot_led u same Q cost performs comes within = let none = sp.none in spot_led_by u Q cost performs comes (omega (arith, within, none, same))
 
     -- on in the block, in a state that differs in counts alone
     pub goes_on : (v : State) (e : Escapes) (born : ℕ → ℕ) (env2 : Env) (moves : ℕ) (y : Stamped) → AreBelow free env2 → Keeps m v → GoesOn m.words m.sizes (layout_of m) e (ways_of m born) sp.t v env2 sp.rest y

@@ -5,6 +5,9 @@ use Rattle.program_runs.specs.Runs.{End}
 use Rattle.program_runs.specs.Follows.{after}
 use Rattle.t_base.specs.declared.builtins.Builtin.{Builtin}
 use Rattle.t_prim.specs.Values.{Val, ClosureV, BuiltinV}
+use Rattle.word_ir.specs.Marked.{MarksFit}
+use Rattle.word_ir.specs.Ranges.{IsInPlace}
+use Rattle.word_ir.specs.Step.{words_in}
 use Rattle.word_ir.specs.Stamps.{Stamped}
 use Rattle.frame_ir.specs.declared.forms.Block.{Block}
 use Rattle.frame_ir.specs.declared.forms.FrameOp.{FrameOp}
@@ -127,10 +130,9 @@ IsDoing m s (Ended end) x = HasEnded m s end x
 IsDoing m s Stale x = ⊥
 IsDoing m s Wrong x = ⊥
 
--- what was made is a closure behind those of the blocks, or none, and no escape
+-- what was made is a closure behind those of the blocks, or none
 abbrev pub IsNew : Setting → Thing → Type 0
 IsNew m (AClosure i) = length m.p.blocks.items ≤ i
-IsNew m (AnEscape birth) = ⊥
 IsNew m _ = Unit {0}
 
 -- What all states of a run have: the names of the program; closures of codes, in front of which stand those of the blocks; and no closure in a frame.
@@ -152,3 +154,6 @@ pub record Related (m : Setting) (s : State) (x : Stamped) : Type 0 where
   pub count : ℕ
   pub reached : s ≡ after (step m.p) count (start m.p)
   pub stands : Stands m s x
+  -- what holds of all runs of words
+  pub in_place : IsInPlace (words_in m.words m.sizes) x.state
+  pub marks : MarksFit (words_in m.words m.sizes) x.state x.marks

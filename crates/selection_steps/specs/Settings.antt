@@ -8,6 +8,7 @@ use Rattle.t_prim.specs.Table.{arity_of}
 use Rattle.cps_ir.specs.declared.args.Arg.{Arg}
 use Rattle.cps_ir.specs.declared.args.Arg.TheVariants as Argument
 use Rattle.word_ir.specs.declared.words.Words.{Words}
+use Rattle.word_ir.specs.Ranges.{HasWords}
 use Rattle.word_ir.specs.Storage.{Sizes}
 use Rattle.frame_ir.specs.declared.forms.Place.TheVariants as At
 use Rattle.frame_ir.specs.declared.forms.FrameOp.{FrameOp}
@@ -26,12 +27,10 @@ use Rattle.prim_holds.specs.Operands.{IsNamed}
 use Rattle.word_selection.specs.Codes.{Choice}
 use Rattle.word_selection.specs.Selections.{IsOpNamed, IsClosureCode, IsSelected}
 
--- ---- plain programs: no closure stands in a frame, and there is no CATCH
+-- ---- plain programs: no closure stands in a frame
 
 abbrev pub is_plain : FrameOp → Bool
 is_plain (Op.Closure to code kept (At.Frame slot)) = false
-is_plain (Op.CatchOpen to back) = false
-is_plain Op.CatchClose = false
 is_plain _ = true
 
 abbrev pub is_plain_program : Frames → Bool
@@ -59,7 +58,7 @@ pub record Setting : Type 0 where
   pub small : HasSmallFrames p
   pub heap : sizes.heap ≤ 2 ^ 28
   pub stack : sizes.stack ≤ 2 ^ 28
-  pub stack_words : sizes.stack % 4 ≡ 0
+  pub whole_sizes : HasWords sizes
   pub sound : (n : ℕ) → IsSound (after (step p) n (start p))
   pub plain : is_plain_program p ≡ true
 
