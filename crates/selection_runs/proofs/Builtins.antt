@@ -1,7 +1,6 @@
 -- A builtin is called.
-use Rattle.std.proofs.Common.{◌≡◌, ℕ, ◌+◌, ◌*◌, ◌<◌, ◌≤◌, ◌⊎◌, inl, inr, List, [], ◌∷◌, length, map, is_some, Option, Some, slice_get, refl, sym, ap, ◌∙◌, subst, arith}
+use Rattle.std.proofs.Common.{◌≡◌, ℕ, ◌+◌, ◌*◌, ◌≤◌, inl, inr, List, [], ◌∷◌, length, is_some, Some, slice_get, refl, sym, ap, ◌∙◌, subst, arith}
 use Rattle.program_runs.specs.Runs.{Faulted}
-use Rattle.t_base.specs.declared.basics.Var.{Var}
 use Rattle.t_base.specs.declared.builtins.Builtin.{Builtin}
 use Rattle.t_base.specs.declared.faults.Fault.{Fault}
 use Rattle.t_prim.specs.Values.{Val, ClosureV, BuiltinV, Store}
@@ -10,14 +9,14 @@ use Rattle.t_prim.specs.Table.{row}
 use Rattle.t_prim.proofs.RowLaws.{RowGrows, row_grows}
 use Rattle.word_ir.specs.Stamps.{Stamped}
 use Rattle.frame_ir.specs.declared.forms.Block.{Block}
-use Rattle.frame_ir.specs.Values.{Value, Lasting, Frame}
+use Rattle.frame_ir.specs.Values.{Lasting, Frame}
 use Rattle.frame_ir.specs.States.{State, Calling, faulted, counted, after_row, with_store, older_than_youngest}
 use Rattle.frame_ir.specs.Arguments.{bound}
 use Rattle.frame_ir.specs.Calls.{begun, jumped, returned, called}
 use Rattle.word_trees.specs.Leads.{Leads}
 use Rattle.word_trees.proofs.Performing.{leads_more}
 use Rattle.select_rows.specs.Codes.{code_of}
-use Rattle.frame_words.specs.Layouts.{BuiltinOf, fixed_place}
+use Rattle.frame_words.specs.Layouts.{BuiltinOf}
 use Rattle.frame_words.specs.Contents.{Escapes}
 use Rattle.frame_words.specs.Origins.{InStatics}
 use Rattle.frame_words.proofs.Values.{in_statics}
@@ -126,6 +125,7 @@ module _ (m : Setting) (s : State) (args : List Val) (x : Stamped) (keeps : Keep
       where
         paid_enough : saved s.doing ≡ 30 + 30 * length args
         paid_enough = has_saved
+
         few_args : 0 ≤ length args
         few_args = omega arith
 

@@ -1,5 +1,5 @@
 -- A call is made: of a closure, of an object, which passes it on, and of what is no procedure.
-use Rattle.std.proofs.Common.{◌≡◌, ℕ, suc, ◌+◌, ◌-◌, ◌*◌, ◌<◌, ◌≤◌, ◌==◌, ◌⊎◌, inl, inr, Bool, true, false, if◌then◌else◌, List, [], ◌∷◌, length, map, is_some, Option, Some, None, slice_get, refl, sym, ap, ◌∙◌, subst, arith}
+use Rattle.std.proofs.Common.{◌≡◌, ℕ, ◌+◌, ◌-◌, ◌*◌, ◌==◌, ◌⊎◌, inl, inr, Bool, true, false, if◌then◌else◌, List, [], ◌∷◌, length, map, is_some, Option, Some, slice_get, refl, ap, subst, arith}
 use Rattle.program_runs.specs.Runs.{Faulted}
 use Rattle.t_base.specs.declared.faults.Fault.TheVariants.{NotProcedure, WrongCount}
 use Rattle.t_base.specs.declared.builtins.Builtin.{Builtin}
@@ -8,14 +8,12 @@ use Rattle.t_prim.specs.Kinds.{is_procedure}
 use Rattle.word_ir.specs.Stamps.{Stamped}
 use Rattle.frame_ir.specs.declared.forms.Block.{Block}
 use Rattle.frame_ir.specs.Values.{Value, Lasting, Closure, Object}
-use Rattle.frame_ir.specs.States.{State, Thing, Calling, AClosure, thing_words, going, faulted, counted, or_wrong}
-use Rattle.frame_ir.specs.Sizes.{FramesAreSmall}
+use Rattle.frame_ir.specs.States.{State, Thing, Calling, AClosure, thing_words, going, faulted, counted}
 use Rattle.frame_ir.specs.Arguments.{bound}
 use Rattle.frame_ir.specs.Calls.{begun, entered, called}
-use Rattle.word_trees.specs.Trees.{Tree, Spells}
 use Rattle.word_trees.specs.Cores.{Core}
 use Rattle.frame_words.specs.Contents.{Escapes}
-use Rattle.word_trees.specs.Leads.{Leads, Performs}
+use Rattle.word_trees.specs.Leads.{Leads}
 use Rattle.word_trees.proofs.Performing.{leads_more}
 use Rattle.frame_words.specs.Layouts.{ClosureOf}
 use Rattle.frame_words.specs.ValueWords.{same_thing, heap_place}
@@ -25,7 +23,7 @@ use Rattle.frame_words.proofs.Sizes.{thing_sound}
 use Rattle.frame_words.proofs.Values.{either}
 use Rattle.frame_stacks.specs.Stacks.{IsLasting}
 use Rattle.frame_reads.specs.Laws.{Fails}
-use Rattle.frame_calls.specs.Codes.{call_params, entry_code, apply_code}
+use Rattle.frame_calls.specs.Codes.{call_params, entry_code}
 use Rattle.frame_calls.specs.Calls.{HoldsCall, Calls}
 use Rattle.frame_calls.proofs.Applying.{closure_applied}
 use Rattle.frame_objects.specs.Laws.{object_code}
@@ -35,8 +33,8 @@ use Rattle.frame_dispatch.proofs.Headers.{not_procedure_fails}
 use Rattle.frame_dispatch.proofs.Then.{leads_then, any_leads}
 use Rattle.word_selection.specs.Selections.{IsEntry, IsClosureCode}
 use Rattle.selection_steps.specs.Settings.{Setting, choice_of, layout_of, IsSound}
-use Rattle.selection_steps.specs.Related.{ways_of, CallsAt, CallsClosure, CallsBuiltin, IsCalling, IsNew, Keeps}
-use Rattle.selection_steps.specs.Led.{most_moves, saved, caught, Comes, Led}
+use Rattle.selection_steps.specs.Related.{ways_of, CallsAt, IsCalling, IsNew, Keeps}
+use Rattle.selection_steps.specs.Led.{saved, caught, Comes, Led}
 use Rattle.selection_steps.proofs.Leading.{lookup}
 use Rattle.selection_steps.proofs.Ending.{ends_by}
 use Rattle.selection_runs.proofs.Counted.{calls_counted}
@@ -160,11 +158,14 @@ module _ (m : Setting) (s : State) (args : List Val) (x : Stamped) (keeps : Keep
       leads_from m (Calls m.sizes (layout_of m) o.escapes (ways_of m o.born) m.selected.blocks.apply.t s (Lasting k.procedure) args (choice_of m).apply) (Comes m s (passed_to k)) 21
       (apply_block m.selected.blocks.apply.t (choice_of m).apply (choice_of m).look (choice_of m).kill) o.calls.core (choice_of m).apply o.calls.moves o.calls.steps x m.selected.blocks.apply.spelled o.calls.there
       (object_passes m.words m.sizes (layout_of m) o.escapes (ways_of m o.born) m.selected.blocks.apply.t s i k args o.calls.core (choice_of m).apply m.selected.blocks.apply.target (others_code m.selected.blocks.apply.t (choice_of m).look (choice_of m).kill) o.calls.holds there m.selected.blocks.apply.there m.selected.blocks.apply.are)
-      (λ z q. inl (keeps, inl (record {
-        escapes = o.escapes;
-        born = o.born;
-        calls = calls_counted m.sizes (layout_of m) o.escapes (ways_of m o.born) s (s.moves + 1) (Calling (Lasting k.procedure) args) m.selected.blocks.apply.t (Lasting k.procedure) args (choice_of m).apply z q;
-      })))
+      (λ z q. inl (
+        keeps,
+        inl (record {
+          escapes = o.escapes;
+          born = o.born;
+          calls = calls_counted m.sizes (layout_of m) o.escapes (ways_of m o.born) s (s.moves + 1) (Calling (Lasting k.procedure) args) m.selected.blocks.apply.t (Lasting k.procedure) args (choice_of m).apply z q;
+        }),
+      ))
   object_leads i k there (inr (inl o)) = absurd (not_object_closure i o.i o.is)
   object_leads i k there (inr (inr o)) = absurd (not_object_builtin i o.b o.is)
 

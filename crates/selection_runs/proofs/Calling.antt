@@ -1,5 +1,5 @@
 -- A call at the end of a block.
-use Rattle.std.proofs.Common.{◌≡◌, ℕ, ◌+◌, ◌-◌, ◌*◌, ◌<◌, ◌≤◌, ◌⊎◌, inl, inr, Bool, true, false, List, [], ◌∷◌, length, map, Option, Some, None, is_some, option_map, option_and_then, slice_get, refl, sym, ap, ◌∙◌, subst, arith}
+use Rattle.std.proofs.Common.{◌≡◌, ℕ, ◌+◌, ◌-◌, ◌*◌, ◌<◌, inl, inr, true, false, List, [], ◌∷◌, length, map, Option, Some, None, is_some, option_map, option_and_then, slice_get, refl, sym, ap, ◌∙◌, subst, arith}
 use Rattle.std.specs.List.{AllByRecursion}
 use Rattle.std.specs.Option.{option_map_or}
 use Rattle.std.proofs.lemmas.List.{length-map}
@@ -10,27 +10,26 @@ use Rattle.t_base.specs.declared.builtins.Builtin.{Builtin}
 use Rattle.t_prim.specs.Values.{Val, ClosureV, BuiltinV}
 use Rattle.word_ir.specs.declared.words.WordBlock.{WordBlock}
 use Rattle.word_ir.specs.Stamps.{Stamped}
-use Rattle.frame_ir.specs.declared.forms.FrameEnd.{FrameEnd}
 use Rattle.frame_ir.specs.declared.forms.FrameEnd.TheVariants as Last
 use Rattle.frame_ir.specs.declared.forms.Block.{Block}
-use Rattle.frame_ir.specs.Values.{Value, Lasting, Closure, Env}
+use Rattle.frame_ir.specs.Values.{Value, Lasting, Env}
 use Rattle.frame_ir.specs.States.{State, Calling, going, counted, or_wrong}
 use Rattle.frame_ir.specs.Arguments.{value_of, lasting_value, lasting_values, code_of_global}
 use Rattle.frame_ir.specs.Operations.{ended}
 use Rattle.frame_words.specs.Layouts.{Layout, Fixed, ClosureOf, BuiltinOf, fixed_place, fixed_address}
 use Rattle.frame_words.specs.ValueWords.{OBJECT, tagged}
 use Rattle.frame_words.proofs.Reading.{fixed_is}
-use Rattle.frame_stacks.specs.Laws.{HasValue, HaveValues}
+use Rattle.frame_stacks.specs.Laws.{HaveValues}
 use Rattle.frame_calls.specs.Codes.{call_params, entry_code}
 use Rattle.frame_calls.specs.Calls.{Calls}
 use Rattle.frame_calls.proofs.Calling.{call_performs}
 use Rattle.frame_dispatch.specs.Codes.{builtin_code}
 use Rattle.prim_holds.specs.Operands.{IsNamed, fixed_word, operand_of}
 use Rattle.word_selection.specs.Codes.{call_target}
-use Rattle.word_selection.specs.Selections.{IsEntry, IsClosureCode}
+use Rattle.word_selection.specs.Selections.{IsEntry}
 use Rattle.selection_steps.specs.Settings.{Setting, choice_of, layout_of, called_code, IsSound}
-use Rattle.selection_steps.specs.Related.{ways_of, CallsAt, CallsClosure, CallsBuiltin, IsCalling}
-use Rattle.selection_steps.specs.Led.{Comes, Led}
+use Rattle.selection_steps.specs.Related.{ways_of, CallsAt, IsCalling}
+use Rattle.selection_steps.specs.Led.{Led}
 use Rattle.selection_steps.proofs.Leading.{lookup}
 use Rattle.selection_runs.proofs.Begun.{EndSpot, end_held, end_led, has_value, has_lasting}
 use Rattle.selection_runs.proofs.Counted.{calls_counted}
@@ -94,12 +93,15 @@ module _ (m : Setting) (s : State) (f : Arg) (args : List Arg) (env : Env) (x : 
         (Calls m.sizes (layout_of m) sp.runs.escapes (ways_of m sp.runs.born) u s g vs (call_target (choice_of m) m.p.shared f)) (9 + 3 * length (map (operand_of (layout_of m) m.p.shared) args))
         (call_performs m.words m.sizes (layout_of m) sp.runs.escapes (ways_of m sp.runs.born) sp.t u s env sp.runs.core (call_target (choice_of m) m.p.shared f) block (operand_of (layout_of m) m.p.shared f) g (map (operand_of (layout_of m) m.p.shared) args) vs
         (end_held m s (Last.Call f args) env x sp) (has_value m s (Last.Call f args) env x sp f g sp.runs.fits_end.args.0 value) (operands_are args vs sp.runs.fits_end.args.1 given) (omega (arith, n, few)) found params)
-        (λ y o. inl (sp.keeps, is y (record {
-          escapes = sp.runs.escapes;
-          born = sp.runs.born;
-          calls = subst (λ z. Calls m.sizes (layout_of m) sp.runs.escapes (ways_of m sp.runs.born) u calling g vs z y) to
-              (calls_counted m.sizes (layout_of m) sp.runs.escapes (ways_of m sp.runs.born) s (s.moves + (1 + length args)) (Calling g vs) u g vs (call_target (choice_of m) m.p.shared f) y o);
-        })))
+        (λ y o. inl (
+          sp.keeps,
+          is y (record {
+            escapes = sp.runs.escapes;
+            born = sp.runs.born;
+            calls = subst (λ z. Calls m.sizes (layout_of m) sp.runs.escapes (ways_of m sp.runs.born) u calling g vs z y) to
+                (calls_counted m.sizes (layout_of m) sp.runs.escapes (ways_of m sp.runs.born) s (s.moves + (1 + length args)) (Calling g vs) u g vs (call_target (choice_of m) m.p.shared f) y o);
+          }),
+        ))
         (omega (arith, n, k))
 
     to_apply : call_target (choice_of m) m.p.shared f ≡ (choice_of m).apply → Led m s x calling

@@ -1,6 +1,5 @@
 -- A call is held in a state that differs in counts alone.
-use Rattle.std.proofs.Common.{◌≡◌, ℕ, ◌+◌, ◌-◌, ◌<◌, ◌≤◌, true, List, [], ◌∷◌, length, Some, is_some, slice_get, refl, sym, ap, ◌∙◌, subst}
-use Rattle.std.specs.List.{AllByRecursion}
+use Rattle.std.proofs.Common.{◌≡◌, ℕ, List, [], ◌∷◌, Some, is_some, refl, sym, ap, ◌∙◌}
 use Rattle.t_prim.specs.Values.{Val, FixV, CharV, NilV, TrueV, SymbolV, StringV, PairV, VectorV, ClosureV, ObjectV, OperationV, BuiltinV, EscapeV}
 use Rattle.word_ir.specs.Word.{Word, Number}
 use Rattle.word_ir.specs.Storage.{Sizes}
@@ -9,7 +8,7 @@ use Rattle.frame_ir.specs.Values.{Value, Lasting, InFrame, CellAt}
 use Rattle.frame_ir.specs.States.{State, Doing}
 use Rattle.word_trees.specs.Cores.{Core}
 use Rattle.frame_words.specs.Layouts.{Layout}
-use Rattle.frame_words.specs.ValueWords.{word_for, captured_for, or_zero}
+use Rattle.frame_words.specs.ValueWords.{word_for, or_zero}
 use Rattle.frame_words.specs.Contents.{Escapes}
 use Rattle.frame_words.specs.Holding.{AreKnown}
 use Rattle.frame_stacks.specs.Stacks.{Ways, StandsFor}

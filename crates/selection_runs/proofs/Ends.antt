@@ -1,18 +1,16 @@
 -- Ends of blocks but for calls.
-use Rattle.std.proofs.Common.{◌≡◌, ℕ, ◌+◌, ◌*◌, ◌<◌, ◌≤◌, ◌==◌, ◌⊎◌, inl, inr, Bool, true, false, if◌then◌else◌, List, [], ◌∷◌, length, map, Option, Some, None, slice_get, refl, sym, ap, ◌∙◌, subst, arith}
+use Rattle.std.proofs.Common.{◌≡◌, ℕ, ◌+◌, ◌<◌, inl, inr, Bool, true, false, if◌then◌else◌, List, [], ◌∷◌, length, map, Some, slice_get, refl, sym, ap, ◌∙◌, subst, arith}
 use Rattle.std.proofs.lemmas.List.{length-map}
 use Rattle.std.proofs.lemmas.Option.{slice_get_cases}
 use Rattle.program_runs.specs.Runs as runs
-use Rattle.t_base.specs.declared.basics.Var.{Var}
 use Rattle.cps_ir.specs.declared.args.Arg.{Arg}
 use Rattle.t_prim.specs.Kinds.{is_nil}
 use Rattle.t_prim.specs.Values.{Val, shown_of, shown_symbol}
 use Rattle.word_ir.specs.Stamps.{Stamped}
-use Rattle.frame_ir.specs.declared.forms.FrameEnd.{FrameEnd}
 use Rattle.frame_ir.specs.declared.forms.FrameEnd.TheVariants as Last
 use Rattle.frame_ir.specs.declared.forms.Block.{Block}
-use Rattle.frame_ir.specs.Values.{Value, Lasting, InFrame, CellAt, Env, Frame}
-use Rattle.frame_ir.specs.States.{State, Running, Ended, going, counted, wrong, or_wrong, older_than_youngest}
+use Rattle.frame_ir.specs.Values.{Value, Lasting, InFrame, CellAt, Env}
+use Rattle.frame_ir.specs.States.{State, Running, Ended, going, counted, or_wrong, older_than_youngest}
 use Rattle.frame_ir.specs.Arguments.{value_of, values_of, lasting_value, bound}
 use Rattle.frame_ir.specs.Calls.{begun, shown, jumped, returned}
 use Rattle.frame_ir.specs.Operations.{ended, branched}
@@ -28,9 +26,9 @@ use Rattle.prim_holds.specs.Operands.{operand_of}
 use Rattle.prim_holds.proofs.Keeping.{count_free}
 use Rattle.word_selection.specs.Selections.{IsBlockOf}
 use Rattle.selection_steps.specs.Settings.{Setting, choice_of, layout_of, IsSound}
-use Rattle.selection_steps.specs.Related.{ways_of, Runs, Keeps}
+use Rattle.selection_steps.specs.Related.{ways_of, Keeps}
 use Rattle.selection_steps.specs.Led.{Comes, Led}
-use Rattle.selection_steps.proofs.Leading.{AreBelow, below_now, held_above, led_by, lookup}
+use Rattle.selection_steps.proofs.Leading.{below_now, held_above, led_by, lookup}
 use Rattle.selection_steps.proofs.Ending.{ends_by}
 use Rattle.selection_steps.proofs.Youngest.{with_pushed}
 use Rattle.selection_runs.proofs.Blocks.{IsKnown, block_known}
@@ -113,23 +111,26 @@ module _ (m : Setting) (s : State) (env : Env) (x : Stamped) where
     arm_runs : (k : ℕ) (i : IsThere k) (t : ℕ) (y : Stamped) → GoesOn m.words m.sizes (layout_of m) sp.runs.escapes (ways_of m sp.runs.born) t s env (arm_of k i).tree y → Comes m s (begun i.block env (counted 2 s)) y
     arm_runs k i t y o =
         let known : IsKnown m i.block = block_known m k i.block i.at in
-        inl (sp.keeps, record {
-          escapes = sp.runs.escapes;
-          born = sp.runs.born;
-          core = o.core;
-          holds = count_free m.sizes (layout_of m) sp.runs.escapes (ways_of m sp.runs.born) (choice_of m).free s env o.core (s.moves + 2) (Running i.block.ops.items i.block.last env)
-              (held_above m sp.runs.escapes (ways_of m sp.runs.born) t s env o.core (choice_of m).free (below_now m sp.runs.escapes (ways_of m sp.runs.born) (choice_of m).free s env sp.runs.core sp.runs.holds) o.holds);
-          tree = (arm_of k i).tree;
-          code = (arm_of k i).code;
-          fits = known.fits;
-          fits_end = known.fits_end;
-          block = o.block;
-          place = o.place;
-          moves = o.moves;
-          steps = o.steps;
-          spelled = o.spelled;
-          there = o.there;
-        })
+        inl (
+          sp.keeps,
+          record {
+            escapes = sp.runs.escapes;
+            born = sp.runs.born;
+            core = o.core;
+            holds = count_free m.sizes (layout_of m) sp.runs.escapes (ways_of m sp.runs.born) (choice_of m).free s env o.core (s.moves + 2) (Running i.block.ops.items i.block.last env)
+                (held_above m sp.runs.escapes (ways_of m sp.runs.born) t s env o.core (choice_of m).free (below_now m sp.runs.escapes (ways_of m sp.runs.born) (choice_of m).free s env sp.runs.core sp.runs.holds) o.holds);
+            tree = (arm_of k i).tree;
+            code = (arm_of k i).code;
+            fits = known.fits;
+            fits_end = known.fits_end;
+            block = o.block;
+            place = o.place;
+            moves = o.moves;
+            steps = o.steps;
+            spelled = o.spelled;
+            there = o.there;
+          },
+        )
 
     one : IsThere first
     one = there_is first sp.runs.fits_end.shaped.0

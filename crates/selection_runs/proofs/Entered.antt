@@ -1,7 +1,7 @@
 -- The entry of a code.
-use Rattle.std.proofs.Common.{◌≡◌, ℕ, suc, ◌+◌, ◌-◌, ◌*◌, ◌<◌, ◌≤◌, ◌==◌, ◌⊎◌, inl, inr, Bool, true, false, if◌then◌else◌, List, [], ◌∷◌, length, map, Option, Some, None, slice_get, refl, sym, ap, ◌∙◌, subst, arith}
+use Rattle.std.proofs.Common.{◌≡◌, ℕ, suc, ◌+◌, ◌-◌, ◌*◌, ◌<◌, ◌==◌, inl, inr, Bool, true, false, if◌then◌else◌, List, ◌∷◌, length, map, Option, Some, None, slice_get, refl, sym, ap, ◌∙◌, subst, arith}
 use Rattle.std.specs.Prelude.{IsSomeAnd}
-use Rattle.std.proofs.lemmas.Bool.{eqb-true, ne_eqb, eq-eqb}
+use Rattle.std.proofs.lemmas.Bool.{eqb-true, eq-eqb}
 use Rattle.std.proofs.lemmas.List.{length-map}
 use Rattle.std.proofs.lemmas.List.Elements.{All-contains}
 use Rattle.program_runs.specs.Runs.{Faulted}
@@ -23,7 +23,7 @@ use Rattle.frame_words.specs.Contents.{Escapes}
 use Rattle.frame_stacks.specs.Laws.{AreParameters, Begins}
 use Rattle.frame_reads.specs.Laws.{Fails}
 use Rattle.frame_calls.specs.Codes.{call_params, entry_code}
-use Rattle.frame_calls.specs.Calls.{HoldsCall, Calls}
+use Rattle.frame_calls.specs.Calls.{Calls}
 use Rattle.frame_calls.proofs.Entering.{entry_performs, entry_fails}
 use Rattle.word_selection.specs.Selections.{IsBlockOf, IsEntry, IsClosureCode}
 use Rattle.selection_steps.specs.Settings.{Setting, choice_of, layout_of}

@@ -1,13 +1,12 @@
 -- An escape is called.
-use Rattle.std.proofs.Common.{◌≡◌, ℕ, ◌+◌, ◌*◌, ◌<◌, ◌≤◌, ◌==◌, ◌⊎◌, inl, inr, Bool, true, false, if◌then◌else◌, List, [], ◌∷◌, length, Option, Some, slice_get, refl, sym, ap, ◌∙◌, subst, arith}
-use Rattle.std.specs.List.{list_any}
+use Rattle.std.proofs.Common.{◌≡◌, ℕ, ◌+◌, ◌*◌, inl, inr, Bool, true, false, if◌then◌else◌, List, [], ◌∷◌, length, Some, slice_get, refl, sym, ap, ◌∙◌, subst, arith}
 use Rattle.program_runs.specs.Runs.{Faulted}
 use Rattle.t_base.specs.declared.builtins.Builtin.{Builtin}
 use Rattle.t_base.specs.declared.faults.Fault.TheVariants.{WrongCount, DeadEscape}
 use Rattle.t_prim.specs.Values.{Val, ClosureV, BuiltinV, EscapeV}
 use Rattle.word_ir.specs.Stamps.{Stamped}
 use Rattle.frame_ir.specs.declared.forms.Block.{Block}
-use Rattle.frame_ir.specs.Values.{Value, Lasting, Frame}
+use Rattle.frame_ir.specs.Values.{Lasting, Frame}
 use Rattle.frame_ir.specs.States.{State, Calling, faulted, counted, is_live, older_than, with_live}
 use Rattle.frame_ir.specs.Arguments.{bound}
 use Rattle.frame_ir.specs.Calls.{begun, jumped, escape, escaped}
@@ -22,7 +21,7 @@ use Rattle.frame_escapes.proofs.Counting.{catches_counted}
 use Rattle.word_selection.specs.Selections.{IsBlockOf}
 use Rattle.selection_steps.specs.Settings.{Setting, choice_of, layout_of, IsSound}
 use Rattle.selection_steps.specs.Related.{ways_of, CallsAt, IsCalling, Keeps}
-use Rattle.selection_steps.specs.Led.{saved, caught, paid, Comes, Led}
+use Rattle.selection_steps.specs.Led.{saved, caught, Comes, Led}
 use Rattle.selection_steps.proofs.Leading.{lookup}
 use Rattle.selection_steps.proofs.Ending.{ends_by}
 use Rattle.selection_runs.proofs.Blocks.{IsKnown, block_known}

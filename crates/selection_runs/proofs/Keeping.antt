@@ -1,5 +1,5 @@
 -- The run of the words keeps the run of the frames.
-use Rattle.std.proofs.Common.{◌≡◌, ℕ, ◌+◌, ◌*◌, ◌%◌, ◌≤◌, true, false, Some, refl, sym, ap, ◌∙◌, subst, arith}
+use Rattle.std.proofs.Common.{◌≡◌, false, Some, refl, arith}
 use Rattle.program_runs.specs.Runs.{End, Broken, IsProper}
 use Rattle.program_runs.specs.Keeps.{KeepsWithin}
 use Rattle.program_runs.specs.Follows.{after, runs}
@@ -13,7 +13,7 @@ use Rattle.word_ir.specs.Step.{words_in, words_run}
 use Rattle.word_ir.specs.Stamps.{stamped_start, stamped_words_run}
 use Rattle.word_ir.proofs.Stamping.{stamped_steps_add, stamped_is_seen_as_plain}
 use Rattle.frame_ir.specs.declared.forms.Frames.{Frames}
-use Rattle.frame_ir.specs.States.{Doing, Running, Calling, Looking, Entering, Ended, Stale, Wrong, State, end_of}
+use Rattle.frame_ir.specs.States.{Doing, Running, Calling, Looking, Entering, Ended, Stale, Wrong, end_of}
 use Rattle.frame_ir.specs.Running.{step, start, run}
 use Rattle.word_selection.specs.Selections.{IsSelected}
 use Rattle.selection_steps.specs.Settings.{Setting, is_broken, room_of}

@@ -1,6 +1,5 @@
 -- Every step of the frames is led.
-use Rattle.std.proofs.Common.{◌≡◌, ℕ, ◌+◌, ◌<◌, ◌≤◌, ◌⊎◌, inl, inr, true, false, List, [], ◌∷◌, length, map, is_some, Option, Some, None, refl, sym, ap, ◌∙◌, subst}
-use Rattle.program_runs.specs.Runs.{End, Faulted}
+use Rattle.std.proofs.Common.{◌≡◌, List, [], ◌∷◌, length, map, None, refl, ap, ◌∙◌}
 use Rattle.t_prim.specs.Values.{Val, FixV, CharV, NilV, TrueV, SymbolV, StringV, PairV, VectorV, ClosureV, ObjectV, OperationV, BuiltinV, EscapeV}
 use Rattle.word_ir.specs.Stamps.{Stamped}
 use Rattle.frame_ir.specs.declared.forms.FrameOp.{FrameOp}
@@ -8,21 +7,16 @@ use Rattle.frame_ir.specs.declared.forms.FrameOp.TheVariants as Op
 use Rattle.frame_ir.specs.declared.forms.FrameEnd.{FrameEnd}
 use Rattle.frame_ir.specs.declared.forms.FrameEnd.TheVariants as Last
 use Rattle.frame_ir.specs.Values.{Value, Lasting, InFrame, CellAt, Env}
-use Rattle.frame_ir.specs.States.{Doing, Running, Calling, Looking, Entering, Ended, Stale, Wrong, State, AnEscape, end_of, counted}
+use Rattle.frame_ir.specs.States.{Doing, Running, Calling, Looking, Entering, Ended, Stale, Wrong, State, end_of, counted}
 use Rattle.frame_ir.specs.Sizes.{FramesAreSmall}
 use Rattle.frame_ir.specs.Calls.{entered, called, called_at}
 use Rattle.frame_ir.specs.Groups.{makings}
 use Rattle.frame_ir.specs.Operations.{performed, ended}
 use Rattle.frame_ir.specs.Running.{advance}
 use Rattle.word_trees.specs.Trees.{Tree}
-use Rattle.frame_words.specs.Layouts.{OperationOf}
-use Rattle.frame_words.specs.Origins.{OnHeap, InStatics}
-use Rattle.frame_words.proofs.Values.{on_heap, in_statics}
-use Rattle.frame_stacks.specs.Stacks.{IsLasting}
-use Rattle.frame_calls.specs.Calls.{HoldsCall}
 use Rattle.word_selection.specs.Codes.{IsCode, ends, does, makes}
-use Rattle.selection_steps.specs.Settings.{Setting, choice_of, layout_of, IsSound, is_plain}
-use Rattle.selection_steps.specs.Related.{Runs, CallsAt, IsCalling, IsDoing, Keeps, Stands}
+use Rattle.selection_steps.specs.Settings.{Setting, choice_of, IsSound}
+use Rattle.selection_steps.specs.Related.{Runs, IsCalling, IsDoing, Keeps}
 use Rattle.selection_steps.specs.Led.{saved, Led}
 use Rattle.selection_steps.proofs.Leading.{Spot}
 use Rattle.selection_steps.proofs.Slots.{frame_get_led, pop_led}

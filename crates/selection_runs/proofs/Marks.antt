@@ -1,13 +1,13 @@
 -- Marks go with storage in all runs of words.
-use Rattle.std.proofs.Common.{◌≡◌, ℕ, zero, suc, Bool, true, false, if◌then◌else◌, Option, Some, None, refl, sym, ap, subst}
+use Rattle.std.proofs.Common.{ℕ, zero, suc, Bool, true, false, if◌then◌else◌, Option, Some, None}
 use Rattle.program_runs.specs.Runs.{End}
 use Rattle.program_runs.specs.Follows.{after}
 use Rattle.word_ir.specs.Lines.{Line, line_at}
 use Rattle.word_ir.specs.Marked.{MarksFit}
 use Rattle.word_ir.specs.Ranges.{IsInPlace}
 use Rattle.word_ir.specs.State.{Setting, State}
-use Rattle.word_ir.specs.Step.{broken, step}
-use Rattle.word_ir.specs.Stamps.{Stamped, Marks, line_may, stamped_done, stamped_unless, stamped_step}
+use Rattle.word_ir.specs.Step.{broken}
+use Rattle.word_ir.specs.Stamps.{Stamped, line_may, stamped_done, stamped_unless, stamped_step}
 use Rattle.word_ir.proofs.MarksKept.{step_keeps_marks}
 use Rattle.word_ir.proofs.Places.{step_in_place}
 

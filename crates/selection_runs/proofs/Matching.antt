@@ -1,8 +1,8 @@
 -- Each step of the frames is matched by steps of the words, or these run out of room.
-use Rattle.std.proofs.Common.{◌≡◌, ℕ, suc, ◌+◌, ◌-◌, ◌*◌, ◌/◌, ◌<◌, ◌≤◌, ◌⊎◌, inl, inr, Bool, true, false, List, [], ◌∷◌, length, Option, Some, None, refl, sym, ap, ◌∙◌, subst, arith, ⊎_elim}
-use Rattle.program_runs.specs.Runs.{End, Full}
+use Rattle.std.proofs.Common.{◌≡◌, ℕ, suc, ◌+◌, ◌-◌, ◌*◌, ◌/◌, ◌<◌, ◌≤◌, ◌⊎◌, inl, inr, Bool, true, false, None, refl, sym, ap, ◌∙◌, subst, arith, ⊎_elim}
+use Rattle.program_runs.specs.Runs.{Full}
 use Rattle.program_runs.specs.Keeps.{HasCost}
-use Rattle.program_runs.specs.Follows.{Alike, IsMachine, after, Machine, runs, CostsBetween, Matched, RunsOut, SimulatesWithin}
+use Rattle.program_runs.specs.Follows.{Alike, after, Machine, runs, Matched, RunsOut, SimulatesWithin}
 use Rattle.program_runs.proofs.Prefixes.{prefix_of_eq, prefix_trans}
 use Rattle.program_runs.proofs.Simulate.{after_last, machine_steady}
 use Rattle.word_ir.specs.Storage.{HEAP_START}
@@ -14,11 +14,9 @@ use Rattle.frame_ir.specs.Sizes.{FramesAreSmall}
 use Rattle.frame_ir.specs.Running.{step, start}
 use Rattle.frame_ir.proofs.Growth.{is_machine}
 use Rattle.frame_ir.proofs.SmallFrames.{frames_stay_small}
-use Rattle.word_trees.specs.Cores.{Core}
-use Rattle.frame_words.specs.Holding.{HoldsData}
-use Rattle.selection_steps.specs.Settings.{Setting, layout_of, room_of, IsSound}
-use Rattle.selection_steps.specs.Related.{CallsAt, IsCalling, IsDoing, Stands, Related}
-use Rattle.selection_steps.specs.Led.{most_moves, paid, IsAsked, NoRoom, Comes, Led}
+use Rattle.selection_steps.specs.Settings.{Setting, room_of, IsSound}
+use Rattle.selection_steps.specs.Related.{CallsAt, IsCalling, IsDoing, Related}
+use Rattle.selection_steps.specs.Led.{most_moves, paid, IsAsked, Comes, Led}
 use Rattle.selection_runs.proofs.Leads.{advance_led}
 use Rattle.selection_runs.proofs.Marks.{marks_after}
 

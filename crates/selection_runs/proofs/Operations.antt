@@ -1,6 +1,6 @@
 -- An operation is called: it looks at the methods of its first operand, and comes to a method, to its default, or to the fault.
-use Rattle.std.proofs.Common.{◌≡◌, ℕ, suc, ◌+◌, ◌-◌, ◌*◌, ◌<◌, ◌≤◌, ◌==◌, ◌⊎◌, inl, inr, Bool, true, false, if◌then◌else◌, List, [], ◌∷◌, length, map, is_some, Option, Some, None, option_map, option_and_then, slice_get, refl, sym, ap, ◌∙◌, subst, arith}
-use Rattle.std.specs.Prelude.{All, Contains, IsSomeAnd}
+use Rattle.std.proofs.Common.{◌≡◌, ℕ, ◌+◌, ◌-◌, ◌*◌, ◌<◌, ◌≤◌, ◌==◌, ◌⊎◌, inl, inr, Bool, true, false, if◌then◌else◌, List, [], ◌∷◌, length, map, is_some, Option, Some, None, option_map, option_and_then, slice_get, refl, sym, ap, ◌∙◌, subst, arith}
+use Rattle.std.specs.Prelude.{Contains, IsSomeAnd}
 use Rattle.std.specs.List.{AllByRecursion}
 use Rattle.std.specs.Option.{option_map_or}
 use Rattle.std.proofs.lemmas.Bool.{eqb-true, eq-eqb}
@@ -19,29 +19,28 @@ use Rattle.frame_ir.specs.Values.{Value, Lasting, Object}
 use Rattle.frame_ir.specs.States.{State, Doing, Calling, Looking, Entering, going, faulted, counted, or_wrong}
 use Rattle.frame_ir.specs.Arguments.{bound, code_of_default, proc_count, default_count}
 use Rattle.frame_ir.specs.Calls.{begun, methods_of, methods_at, operated, defaulted, looked, entered}
-use Rattle.frame_ir.specs.Parts.{closure_codes, method_codes}
+use Rattle.frame_ir.specs.Parts.{method_codes}
 use Rattle.frame_ir.specs.Whole.{HasParams, IsCodeCount, IsMethodCount}
 use Rattle.frame_ir.proofs.KindTexts.{contains_flat}
 use Rattle.word_trees.specs.Trees.{Tree, Spells}
 use Rattle.word_trees.specs.Leads.{Leads}
 use Rattle.word_trees.proofs.Performing.{leads_more}
-use Rattle.frame_words.specs.Layouts.{Layout, OperationOf, TemplateOf, fixed_place}
+use Rattle.frame_words.specs.Layouts.{Layout, OperationOf, fixed_place}
 use Rattle.frame_words.specs.Contents.{Escapes}
 use Rattle.frame_reads.specs.Laws.{Fails}
 use Rattle.frame_stacks.specs.Laws.{AreParameters, Begins}
 use Rattle.frame_calls.specs.Codes.{call_params, entry_code}
-use Rattle.frame_calls.specs.Calls.{HoldsCall, Calls}
+use Rattle.frame_calls.specs.Calls.{Calls}
 use Rattle.frame_methods.specs.Laws.{method_code}
 use Rattle.frame_methods.proofs.Methods.{method_performs, method_fails}
 use Rattle.frame_dispatch.specs.Codes.{look_code, apply_block}
-use Rattle.frame_operations.specs.Calls.{AreMethods, HoldsLook, Looks, methods_in, HasOperations}
+use Rattle.frame_operations.specs.Calls.{AreMethods, Looks, methods_in, HasOperations}
 use Rattle.frame_operations.proofs.Looking.{operation_looks, operation_of_none_fails}
 use Rattle.frame_operations.proofs.Methods.{method_found, method_passed, default_taken, unhandled_fails}
-use Rattle.word_selection.specs.Selections.{IsBlockOf, IsEntry, IsClosureCode}
-use Rattle.selection_steps.specs.Settings.{Setting, choice_of, layout_of, IsSound}
+use Rattle.word_selection.specs.Selections.{IsBlockOf, IsEntry}
+use Rattle.selection_steps.specs.Settings.{Setting, choice_of, layout_of}
 use Rattle.selection_steps.specs.Related.{ways_of, CallsAt, IsCalling, LooksAt, EntersMethod, EntersDefault, Keeps}
 use Rattle.selection_steps.specs.Led.{saved, caught, Comes, Led}
-use Rattle.selection_steps.proofs.Leading.{lookup}
 use Rattle.selection_steps.proofs.Ending.{ends_by}
 use Rattle.selection_runs.proofs.Blocks.{each_in, among_below, IsKnown, block_known}
 use Rattle.selection_runs.proofs.Begun.{begun_runs, parameters_from}
@@ -179,8 +178,11 @@ module _ (m : Setting) where
               leads_from m (Looks m.sizes (layout_of m) q.escapes (ways_of m q.born) m.selected.blocks.look.t s o (methods_in (layout_of m) s v) (v ∷ vs) (choice_of m).look) (Comes m s (going (Looking o (methods_at m.p s v) (v ∷ vs)) (counted 1 s))) 40
               (apply_block m.selected.blocks.apply.t (choice_of m).apply (choice_of m).look (choice_of m).kill) q.calls.core (choice_of m).apply q.calls.moves q.calls.steps x m.selected.blocks.apply.spelled q.calls.there
               (operation_looks m.words m.sizes (layout_of m) q.escapes (ways_of m q.born) m.selected.blocks.apply.t m.selected.blocks.look.t s o v vs q.calls.core (choice_of m).apply (choice_of m).look (choice_of m).kill m.selected.blocks.look.target q.calls.holds has_operations m.selected.blocks.look.there m.selected.blocks.look.are)
-              (λ z k. inl (keeps, looks_at o v vs (methods_at m.p s v) (s.moves + 1) q.escapes q.born (codes v) z
-              (subst (λ left. Looks m.sizes (layout_of m) q.escapes (ways_of m q.born) m.selected.blocks.look.t s o left (v ∷ vs) (choice_of m).look z) (same_methods s v) k))));
+              (λ z k. inl (
+                keeps,
+                looks_at o v vs (methods_at m.p s v) (s.moves + 1) q.escapes q.born (codes v) z
+                    (subst (λ left. Looks m.sizes (layout_of m) q.escapes (ways_of m q.born) m.selected.blocks.look.t s o left (v ∷ vs) (choice_of m).look z) (same_methods s v) k),
+              )));
           moves = omega (arith, paid);
         }
 
@@ -213,16 +215,19 @@ module _ (m : Setting) where
             cost = 22;
             leads = leads_from m (Calls m.sizes (layout_of m) e (ways_of m born) entry.t s (Lasting (OperationV o)) (v ∷ vs) ((layout_of m).closure_entry code)) (Comes m s (going (Entering code (Lasting (OperationV o) ∷ map Lasting (v ∷ vs))) (counted 1 s))) 22 look_tree q.core (choice_of m).look q.moves q.steps x m.selected.blocks.look.spelled q.there
                 (default_taken m.words m.sizes (layout_of m) e (ways_of m born) m.selected.blocks.look.t entry.t s o ((layout_of m).closure_entry code) (v ∷ vs) q.core (choice_of m).look entry.target q.holds (m.selected.named.defaults o ∙ ap (option_map (layout_of m).closure_entry) is) entry.there entry.are)
-                (λ z k. inl (keeps, inr (record {
-                  f = Lasting (OperationV o);
-                  args = v ∷ vs;
-                  are = refl;
-                  block = b.block;
-                  found = b.is;
-                  is_code = inr below;
-                  entry = entry;
-                  calls = record { escapes = e; born = born; calls = calls_counted m.sizes (layout_of m) e (ways_of m born) s (s.moves + 1) (Entering code (Lasting (OperationV o) ∷ map Lasting (v ∷ vs))) entry.t (Lasting (OperationV o)) (v ∷ vs) ((layout_of m).closure_entry code) z k };
-                })));
+                (λ z k. inl (
+                  keeps,
+                  inr (record {
+                    f = Lasting (OperationV o);
+                    args = v ∷ vs;
+                    are = refl;
+                    block = b.block;
+                    found = b.is;
+                    is_code = inr below;
+                    entry = entry;
+                    calls = record { escapes = e; born = born; calls = calls_counted m.sizes (layout_of m) e (ways_of m born) s (s.moves + 1) (Entering code (Lasting (OperationV o) ∷ map Lasting (v ∷ vs))) entry.t (Lasting (OperationV o)) (v ∷ vs) ((layout_of m).closure_entry code) z k };
+                  }),
+                ));
             moves = omega (arith, paid, n);
           }
 
@@ -237,15 +242,18 @@ module _ (m : Setting) where
             cost = 16;
             leads = leads_from m (Calls m.sizes (layout_of m) e (ways_of m born) entry.t s (Lasting v) (v ∷ vs) ((layout_of m).method_entry k.1)) (Comes m s (going (Entering k.1 (map Lasting (v ∷ vs))) (counted 1 s))) 16 look_tree q.core (choice_of m).look q.moves q.steps x m.selected.blocks.look.spelled q.there
                 (method_found m.words m.sizes (layout_of m) e (ways_of m born) m.selected.blocks.look.t entry.t s o k left v vs q.core (choice_of m).look entry.target q.holds is entry.there entry.are)
-                (λ z c. inl (keeps, inl (record {
-                  f = Lasting v;
-                  args = v ∷ vs;
-                  are = refl;
-                  block = b.block;
-                  found = b.is;
-                  entry = entry;
-                  calls = record { escapes = e; born = born; calls = calls_counted m.sizes (layout_of m) e (ways_of m born) s (s.moves + 1) (Entering k.1 (map Lasting (v ∷ vs))) entry.t (Lasting v) (v ∷ vs) ((layout_of m).method_entry k.1) z c };
-                })));
+                (λ z c. inl (
+                  keeps,
+                  inl (record {
+                    f = Lasting v;
+                    args = v ∷ vs;
+                    are = refl;
+                    block = b.block;
+                    found = b.is;
+                    entry = entry;
+                    calls = record { escapes = e; born = born; calls = calls_counted m.sizes (layout_of m) e (ways_of m born) s (s.moves + 1) (Entering k.1 (map Lasting (v ∷ vs))) entry.t (Lasting v) (v ∷ vs) ((layout_of m).method_entry k.1) z c };
+                  }),
+                ));
             moves = omega (arith, paid, n);
           }
       method_led k left false is doing inside codes e born q =

@@ -1,36 +1,33 @@
 -- At the start both programs stand alike.
-use Rattle.std.proofs.Common.{◌≡◌, ℕ, zero, suc, ◌+◌, ◌-◌, ◌*◌, ◌/◌, ◌%◌, ◌^◌, ◌<◌, ◌≤◌, ◌==◌, ◌⊎◌, inl, inr, Bool, true, false, cond, if◌then◌else◌, List, [], ◌∷◌, ◌++◌, length, map, replicate, is_some, Option, Some, None, slice_get, refl, sym, ap, ◌∙◌, subst, arith}
+use Rattle.std.proofs.Common.{◌≡◌, ℕ, zero, suc, ◌+◌, ◌-◌, ◌/◌, ◌<◌, Bool, true, false, cond, if◌then◌else◌, List, [], ◌∷◌, length, map, replicate, is_some, Option, Some, None, slice_get, refl, sym, ap, ◌∙◌, subst, arith}
 use Rattle.std.specs.Prelude.{count_by}
 use Rattle.std.proofs.lemmas.List.Sums.{sum_by-cons}
 use Rattle.std.proofs.lemmas.Option.{slice_get_within}
-use Rattle.program_runs.specs.Follows.{after}
 use Rattle.t_base.specs.declared.basics.Var.{Var}
 use Rattle.t_base.specs.declared.shared_parts.Global1.{Global1}
 use Rattle.t_prim.specs.Values.{Val, ClosureV}
-use Rattle.word_ir.specs.Word.{Word, Number}
-use Rattle.word_ir.specs.Storage.{Regions, HEAP_START, STACK_START, static_at, long_at}
+use Rattle.word_ir.specs.Word.{Number}
+use Rattle.word_ir.specs.Storage.{HEAP_START, STACK_START, static_at, long_at}
 use Rattle.word_ir.specs.State.{static_word}
 use Rattle.word_ir.specs.Step.{words_in}
-use Rattle.word_ir.specs.Stamps.{Stamp, Stamped, stamped_start}
+use Rattle.word_ir.specs.Stamps.{stamped_start}
 use Rattle.word_ir.proofs.MarksKept.{start_has_marks}
 use Rattle.word_ir.proofs.Places.{start_in_place}
 use Rattle.frame_ir.specs.declared.forms.Block.{Block}
-use Rattle.frame_ir.specs.Values.{Value, Closure, Env}
-use Rattle.frame_ir.specs.States.{State, Running}
+use Rattle.frame_ir.specs.States.{State}
 use Rattle.frame_ir.specs.Arguments.{is_proc, bound}
-use Rattle.frame_ir.specs.Calls.{begun, jumped}
-use Rattle.frame_ir.specs.Running.{static_closures, first_globals, bare_state, step, start}
+use Rattle.frame_ir.specs.Calls.{begun}
+use Rattle.frame_ir.specs.Running.{static_closures, first_globals, bare_state, start}
 use Rattle.word_trees.specs.Cores.{Core, at}
-use Rattle.frame_words.specs.Layouts.{Layout, ClosureOf, INNER, fixed_place, fixed_address}
+use Rattle.frame_words.specs.Layouts.{Layout, ClosureOf, INNER, fixed_place}
 use Rattle.frame_words.specs.ValueWords.{NIL, word_for}
 use Rattle.frame_words.specs.Contents.{Escapes}
 use Rattle.frame_words.specs.Holding.{HoldsData}
 use Rattle.frame_words.proofs.Segments.{get_left}
 use Rattle.frame_stacks.specs.Frames.{Holds}
-use Rattle.frame_stacks.specs.Laws.{Begins, first_stack}
 use Rattle.frame_stacks.proofs.Gets.{no_frames}
 use Rattle.frame_calls.proofs.Statics.{front_read}
-use Rattle.selection_steps.specs.Settings.{Setting, choice_of, layout_of, IsSound}
+use Rattle.selection_steps.specs.Settings.{Setting, choice_of, layout_of}
 use Rattle.selection_steps.specs.Related.{ways_of, Keeps, Stands, Related}
 use Rattle.selection_steps.specs.Led.{paid}
 use Rattle.selection_runs.proofs.Begun.{begun_stands, with_jumped}

@@ -1,5 +1,5 @@
 -- What the run of a program of words keeps that is selected for a program with frames.
-use Rattle.std.specs.Prelude.{◌≡◌, ℕ, ◌^◌, ◌≤◌, true, Some, None}
+use Rattle.std.specs.Prelude.{◌≡◌, ℕ, ◌^◌, ◌≤◌, true, Some}
 use Rattle.program_runs.specs.Runs.{End, IsProper, Run}
 use Rattle.program_runs.specs.Keeps.{Room, KeepsWithin}
 use Rattle.word_ir.specs.declared.words.Words.{Words}

@@ -1,6 +1,5 @@
 -- A CATCH is opened and closed.
-use Rattle.std.proofs.Common.{◌≡◌, ℕ, ◌+◌, ◌-◌, ◌*◌, ◌/◌, ◌<◌, ◌≤◌, ◌==◌, ◌⊎◌, inl, inr, Bool, true, false, if◌then◌else◌, List, [], ◌∷◌, length, Some, slice_get, refl, sym, ap, ◌∙◌, subst, arith}
-use Rattle.std.specs.List.{AllByRecursion}
+use Rattle.std.proofs.Common.{◌≡◌, ℕ, ◌+◌, ◌-◌, ◌*◌, ◌/◌, ◌<◌, ◌≤◌, ◌==◌, inl, inr, true, if◌then◌else◌, List, [], ◌∷◌, length, refl, ap, ◌∙◌, subst, arith}
 use Rattle.t_base.specs.declared.basics.Var.{Var}
 use Rattle.t_prim.specs.Values.{EscapeV}
 use Rattle.word_ir.specs.Storage.{HEAP_START}
@@ -8,7 +7,7 @@ use Rattle.word_ir.specs.Stamps.{Stamped}
 use Rattle.frame_ir.specs.declared.forms.FrameOp.{FrameOp}
 use Rattle.frame_ir.specs.declared.forms.FrameOp.TheVariants as Op
 use Rattle.frame_ir.specs.declared.forms.FrameEnd.{FrameEnd}
-use Rattle.frame_ir.specs.Values.{Lasting, Frame, Env, frame_words}
+use Rattle.frame_ir.specs.Values.{Lasting, Env, frame_words}
 use Rattle.frame_ir.specs.Sizes.{most_frame_words}
 use Rattle.frame_ir.specs.States.{State, AnEscape, Running, going, counted, with_live, older_than_youngest}
 use Rattle.frame_ir.specs.Operations.{catch_frame}
@@ -25,9 +24,9 @@ use Rattle.frame_catches.proofs.Opening.{catch_opened}
 use Rattle.selection_steps.specs.Settings.{Setting, choice_of, layout_of, IsSound}
 use Rattle.selection_steps.specs.Related.{ways_of, IsNew, Keeps}
 use Rattle.selection_steps.specs.Led.{caught, Comes, NoRoom, Led}
-use Rattle.selection_steps.proofs.Leading.{AreBelow, below_more, Spot, IsLed, acted, fit, held, below, spot_led_by, goes_on}
+use Rattle.selection_steps.proofs.Leading.{below_more, Spot, IsLed, acted, fit, held, below, spot_led_by, goes_on}
 use Rattle.selection_steps.proofs.Caught.{one_if, caught_first, caught_pushed}
-use Rattle.selection_steps.proofs.Ending.{no_heap, taken_words}
+use Rattle.selection_steps.proofs.Ending.{no_heap}
 use Rattle.selection_steps.proofs.Pushes.{frames_together}
 use Rattle.selection_steps.proofs.Youngest.{with_catch_frame}
 

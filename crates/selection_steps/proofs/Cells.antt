@@ -1,5 +1,5 @@
 -- A cell is read, and gets another value.
-use Rattle.std.proofs.Common.{◌≡◌, ℕ, ◌+◌, ◌*◌, ◌<◌, ◌≤◌, List, [], ◌∷◌, Option, Some, None, slice_get, option_and_then, refl, sym, ap, ◌∙◌, subst, arith}
+use Rattle.std.proofs.Common.{◌≡◌, ℕ, ◌+◌, ◌<◌, List, ◌∷◌, Option, Some, None, slice_get, option_and_then, refl, ap, ◌∙◌, arith}
 use Rattle.t_base.specs.declared.basics.Var.{Var}
 use Rattle.cps_ir.specs.declared.args.Arg.{Arg}
 use Rattle.t_prim.specs.Values.{Val}
@@ -25,7 +25,7 @@ use Rattle.prim_holds.proofs.Arguments.{operand_has}
 use Rattle.selection_steps.specs.Settings.{Setting, choice_of, layout_of, IsSound}
 use Rattle.selection_steps.specs.Related.{ways_of}
 use Rattle.selection_steps.specs.Led.{Led}
-use Rattle.selection_steps.proofs.Leading.{AreBelow, below_more, Spot, IsLed, acted, lookup, fit, held, below, spot_led, goes_on}
+use Rattle.selection_steps.proofs.Leading.{below_more, Spot, IsLed, acted, lookup, fit, held, below, spot_led, goes_on}
 
 cell_is : (v : Value) (k : ℕ) → cell_of v ≡ Some k → v ≡ CellAt k
 cell_is (CellAt n) k is = ap CellAt (cc)

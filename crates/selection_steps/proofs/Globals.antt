@@ -1,5 +1,5 @@
 -- A global is read, and gets a value.
-use Rattle.std.proofs.Common.{◌≡◌, ℕ, ◌+◌, ◌*◌, ◌<◌, ◌≤◌, Bool, true, false, if◌then◌else◌, List, [], ◌∷◌, length, Option, Some, None, slice_get, refl, sym, ap, ◌∙◌, subst, arith}
+use Rattle.std.proofs.Common.{◌≡◌, ℕ, ◌+◌, ◌<◌, Bool, true, false, if◌then◌else◌, List, ◌∷◌, length, Option, Some, None, slice_get, refl, sym, subst, arith}
 use Rattle.program_runs.specs.Runs.{Faulted}
 use Rattle.t_base.specs.declared.basics.Var.{Var}
 use Rattle.t_base.specs.declared.faults.Fault.TheVariants.{Unbound}
@@ -9,7 +9,7 @@ use Rattle.word_ir.specs.Stamps.{Stamped}
 use Rattle.frame_ir.specs.declared.forms.FrameOp.{FrameOp}
 use Rattle.frame_ir.specs.declared.forms.FrameOp.TheVariants as Op
 use Rattle.frame_ir.specs.declared.forms.FrameEnd.{FrameEnd}
-use Rattle.frame_ir.specs.Values.{Value, Lasting, Env}
+use Rattle.frame_ir.specs.Values.{Lasting, Env}
 use Rattle.frame_ir.specs.States.{State, Running, going, faulted, counted, or_wrong, with_global_at}
 use Rattle.frame_ir.specs.Arguments.{lasting_value}
 use Rattle.frame_ir.specs.Operations.{if_bound}
@@ -20,8 +20,8 @@ use Rattle.frame_globals.proofs.Globals.{global_is_set, global_is_changed, globa
 use Rattle.prim_holds.specs.Operands.{operand_of}
 use Rattle.selection_steps.specs.Settings.{Setting, choice_of, layout_of, IsSound}
 use Rattle.selection_steps.specs.Related.{ways_of}
-use Rattle.selection_steps.specs.Led.{Comes, Led}
-use Rattle.selection_steps.proofs.Leading.{AreBelow, below_more, Spot, IsLed, acted, lookup, fit, held, below, spot_led, goes_on}
+use Rattle.selection_steps.specs.Led.{Led}
+use Rattle.selection_steps.proofs.Leading.{below_more, Spot, IsLed, acted, lookup, fit, held, below, spot_led, goes_on}
 use Rattle.selection_steps.proofs.Ending.{ends_by}
 use Rattle.selection_steps.proofs.Cells.{argument_has}
 

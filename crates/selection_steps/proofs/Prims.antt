@@ -1,10 +1,10 @@
 -- A builtin is performed.
-use Rattle.std.proofs.Common.{◌≡◌, ℕ, ◌+◌, ◌*◌, ◌<◌, ◌≤◌, ◌⊎◌, inl, inr, List, [], ◌∷◌, length, map, Option, Some, refl, sym, ap, ◌∙◌, subst, arith}
+use Rattle.std.proofs.Common.{◌≡◌, ◌+◌, ◌<◌, inl, inr, List, ◌∷◌, length, refl, subst, arith}
 use Rattle.program_runs.specs.Runs.{Faulted}
 use Rattle.t_base.specs.declared.basics.Var.{Var}
 use Rattle.t_base.specs.declared.builtins.Builtin.{Builtin}
 use Rattle.cps_ir.specs.declared.args.Arg.{Arg}
-use Rattle.t_prim.specs.Values.{Val, Store}
+use Rattle.t_prim.specs.Values.{Val}
 use Rattle.t_prim.specs.Operands.{Row, Gives, Changes, Faults}
 use Rattle.t_prim.specs.Table.{row}
 use Rattle.t_prim.proofs.RowLaws.{RowGrows, row_grows}
@@ -12,17 +12,17 @@ use Rattle.word_ir.specs.Stamps.{Stamped}
 use Rattle.frame_ir.specs.declared.forms.FrameOp.{FrameOp}
 use Rattle.frame_ir.specs.declared.forms.FrameOp.TheVariants as Op
 use Rattle.frame_ir.specs.declared.forms.FrameEnd.{FrameEnd}
-use Rattle.frame_ir.specs.Values.{Value, Lasting, Env}
-use Rattle.frame_ir.specs.States.{State, Running, going, faulted, counted, or_wrong, after_row, with_store}
+use Rattle.frame_ir.specs.Values.{Lasting, Env}
+use Rattle.frame_ir.specs.States.{State, Running, going, counted, after_row, with_store}
 use Rattle.frame_ir.specs.Arguments.{lasting_values}
 use Rattle.select_rows.specs.Codes.{code_of}
-use Rattle.prim_holds.specs.Operands.{operand_of, cost_of}
+use Rattle.prim_holds.specs.Operands.{cost_of}
 use Rattle.prim_holds.specs.Laws.{PrimComes}
 use Rattle.prim_holds.proofs.Prims.{prim_performs}
 use Rattle.selection_steps.specs.Settings.{Setting, choice_of, layout_of, IsSound}
-use Rattle.selection_steps.specs.Related.{ways_of, Keeps}
+use Rattle.selection_steps.specs.Related.{ways_of}
 use Rattle.selection_steps.specs.Led.{saved, caught, Comes, Led}
-use Rattle.selection_steps.proofs.Leading.{AreBelow, below_more, Spot, IsLed, acted, lookup, fit, held, below, spot_led, goes_on}
+use Rattle.selection_steps.proofs.Leading.{below_more, Spot, IsLed, acted, lookup, fit, held, below, spot_led, goes_on}
 use Rattle.selection_steps.proofs.Ending.{ends_by, no_room}
 use Rattle.selection_steps.proofs.Costs.{row_cost}
 use Rattle.selection_steps.proofs.Keeping.{store_kept}

@@ -1,23 +1,21 @@
 -- A frame is pushed, or the stack has no room.
-use Rattle.std.proofs.Common.{◌≡◌, ℕ, zero, suc, ◌+◌, ◌-◌, ◌*◌, ◌/◌, ◌%◌, ◌<◌, ◌≤◌, ◌⊎◌, ◌==◌, if◌then◌else◌, inl, inr, true, false, List, [], ◌∷◌, ◌++◌, length, map, Option, Some, None, slice_get, refl, sym, ap, ◌∙◌, subst, arith, All}
+use Rattle.std.proofs.Common.{◌≡◌, ℕ, zero, suc, ◌+◌, ◌*◌, ◌<◌, ◌≤◌, ◌⊎◌, ◌==◌, if◌then◌else◌, inl, inr, true, List, [], ◌∷◌, length, map, Option, Some, None, slice_get, refl, ap, ◌∙◌, arith, All}
 use Rattle.std.specs.List.{AllByRecursion}
 use Rattle.std.specs.Option.{option_map_or}
 use Rattle.t_base.specs.declared.basics.Var.{Var}
 use Rattle.t_prim.proofs.RowParts.{all_at}
 use Rattle.word_ir.specs.declared.operands.Operand.TheVariants as operand
 use Rattle.word_ir.specs.Stamps.{Stamped}
-use Rattle.frame_ir.specs.declared.forms.Place.{Place}
 use Rattle.frame_ir.specs.declared.forms.Place.TheVariants as At
 use Rattle.frame_ir.specs.declared.forms.FrameOp.{FrameOp}
 use Rattle.frame_ir.specs.declared.forms.FrameOp.TheVariants as Op
 use Rattle.frame_ir.specs.declared.forms.FrameEnd.{FrameEnd}
 use Rattle.frame_ir.specs.Values.{Value, Frame, Env, even, record_words, frame_words}
-use Rattle.frame_ir.specs.Sizes.{FramesAreSmall, most_frame_words}
-use Rattle.frame_ir.specs.States.{State, Running, going, counted, or_wrong, with_frame}
+use Rattle.frame_ir.specs.Sizes.{most_frame_words}
+use Rattle.frame_ir.specs.States.{State, Running, going, counted, with_frame}
 use Rattle.frame_ir.specs.Arguments.{kept_values}
 use Rattle.frame_ir.specs.Operations.{slots_behind, slots_of, pushed_frame}
 use Rattle.word_trees.specs.Cores.{stack_left}
-use Rattle.word_trees.specs.Leads.{Performs}
 use Rattle.frame_words.proofs.Growing.{all_append}
 use Rattle.frame_stacks.specs.Stacks.{words_of_frames, stack_of}
 use Rattle.frame_stacks.proofs.Raising.{live_below}
@@ -25,9 +23,9 @@ use Rattle.frame_stacks.specs.Laws.{IsOutOfStack}
 use Rattle.frame_stacks.proofs.Pushes.{push_ends}
 use Rattle.frame_pushes.specs.Laws.{Pushed}
 use Rattle.frame_pushes.proofs.Pushing.{push_holds}
-use Rattle.selection_steps.specs.Settings.{Setting, choice_of, layout_of, IsSound}
+use Rattle.selection_steps.specs.Settings.{Setting, layout_of, IsSound}
 use Rattle.selection_steps.specs.Related.{ways_of, Keeps}
-use Rattle.selection_steps.specs.Led.{caught, Comes, NoRoom, Led}
+use Rattle.selection_steps.specs.Led.{caught, NoRoom, Led}
 use Rattle.selection_steps.proofs.Leading.{Spot, IsLed, acted, lookup, fit, held, below, spot_led, goes_on}
 use Rattle.selection_steps.proofs.Caught.{caught_pushed}
 use Rattle.selection_steps.proofs.Ending.{taken_words}

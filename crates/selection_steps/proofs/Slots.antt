@@ -1,11 +1,11 @@
 -- Operations that read: a slot of the youngest frame, what a closure or an object captured, a cell; and a frame that is popped.
-use Rattle.std.proofs.Common.{◌≡◌, ℕ, ◌+◌, ◌*◌, ◌<◌, ◌≤◌, if◌then◌else◌, List, [], ◌∷◌, Option, Some, None, slice_get, refl, ap, ◌∙◌, subst, arith}
+use Rattle.std.proofs.Common.{◌≡◌, ℕ, ◌+◌, ◌<◌, if◌then◌else◌, List, ◌∷◌, refl, ap, arith}
 use Rattle.t_base.specs.declared.basics.Var.{Var}
 use Rattle.word_ir.specs.Stamps.{Stamped}
 use Rattle.frame_ir.specs.declared.forms.FrameOp.{FrameOp}
 use Rattle.frame_ir.specs.declared.forms.FrameOp.TheVariants as Op
 use Rattle.frame_ir.specs.declared.forms.FrameEnd.{FrameEnd}
-use Rattle.frame_ir.specs.Values.{Value, Lasting, Frame, Env, value_in, value_at}
+use Rattle.frame_ir.specs.Values.{Env, value_in}
 use Rattle.frame_ir.specs.States.{State, Running, going, counted, or_wrong, with_live, older_than_youngest}
 use Rattle.frame_stacks.specs.Laws.{GoesOn}
 use Rattle.frame_stacks.proofs.Gets.{frame_get_performs}
@@ -14,7 +14,7 @@ use Rattle.selection_steps.specs.Settings.{Setting, choice_of, layout_of, IsSoun
 use Rattle.selection_steps.specs.Related.{ways_of}
 use Rattle.selection_steps.specs.Led.{caught, Led}
 use Rattle.selection_steps.proofs.Caught.{one_if, caught_first}
-use Rattle.selection_steps.proofs.Leading.{AreBelow, below_more, Spot, IsLed, acted, lookup, fit, held, below, spot_led, goes_on}
+use Rattle.selection_steps.proofs.Leading.{below_more, Spot, IsLed, acted, lookup, fit, held, below, spot_led, goes_on}
 use Rattle.selection_steps.proofs.Youngest.{with_pushed}
 
 module _ (m : Setting) (s : State) (ops : List FrameOp) (last : FrameEnd) (env : Env) (x : Stamped) where

@@ -1,7 +1,7 @@
 -- The youngest frame, where the step that looks at it isn't wrong.
-use Rattle.std.proofs.Common.{◌≡◌, ℕ, Bool, true, false, if◌then◌else◌, List, [], ◌∷◌, Option, Some, None, slice_get, refl}
+use Rattle.std.proofs.Common.{◌≡◌, ℕ, Bool, true, false, if◌then◌else◌, List, [], ◌∷◌, Some, slice_get, refl}
 use Rattle.frame_ir.specs.Values.{Frame}
-use Rattle.frame_ir.specs.States.{State, wrong, or_wrong, youngest, older_than_youngest, in_youngest, in_pushed, in_catch}
+use Rattle.frame_ir.specs.States.{State, wrong, or_wrong, youngest, older_than_youngest, in_pushed, in_catch}
 use Rattle.selection_steps.specs.Settings.{IsSound}
 use Rattle.selection_steps.proofs.Leading.{lookup}
 

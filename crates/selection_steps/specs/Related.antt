@@ -13,7 +13,7 @@ use Rattle.frame_ir.specs.declared.forms.Block.{Block}
 use Rattle.frame_ir.specs.declared.forms.FrameOp.{FrameOp}
 use Rattle.frame_ir.specs.declared.forms.FrameEnd.{FrameEnd}
 use Rattle.frame_ir.specs.Values.{Value, Lasting, Closure, Frame, Env}
-use Rattle.frame_ir.specs.States.{Doing, Running, Calling, Looking, Entering, Ended, Stale, Wrong, State, Thing, APair, AVector, AClosure, AnObject, AnEscape, ACell}
+use Rattle.frame_ir.specs.States.{Doing, Running, Calling, Looking, Entering, Ended, Stale, Wrong, State, Thing, AClosure}
 use Rattle.frame_ir.specs.Parts.{method_codes}
 use Rattle.frame_ir.specs.Running.{step, start}
 use Rattle.word_trees.specs.Trees.{Tree, Spells}
@@ -27,7 +27,7 @@ use Rattle.frame_methods.specs.Laws.{method_code}
 use Rattle.frame_operations.specs.Calls.{Looks}
 use Rattle.frame_ends.specs.Laws.{EndsWith}
 use Rattle.frame_dispatch.specs.Codes.{builtin_code}
-use Rattle.word_selection.specs.Codes.{Choice, IsCode}
+use Rattle.word_selection.specs.Codes.{IsCode}
 use Rattle.word_selection.specs.Selections.{IsEntry, IsClosureCode}
 use Rattle.selection_steps.specs.Settings.{Setting, choice_of, layout_of, AreFit, IsFitEnd}
 

@@ -1,9 +1,8 @@
 -- What is given where a program of words goes with a program with frames, and what is known of the rest of a block.
-use Rattle.std.specs.Prelude.{◌≡◌, ℕ, ◌+◌, ◌*◌, ◌%◌, ◌^◌, ◌<◌, ◌≤◌, Bool, true, false, List, [], ◌∷◌, length, All, Option, Some, None, slice_get, IsSomeAnd}
+use Rattle.std.specs.Prelude.{◌≡◌, ℕ, ◌^◌, ◌<◌, ◌≤◌, Bool, true, false, List, [], ◌∷◌, length, Option, Some, None}
 use Rattle.std.specs.List.{AllByRecursion, list_all}
 use Rattle.program_runs.specs.Follows.{after}
 use Rattle.program_runs.specs.Keeps.{Room}
-use Rattle.t_base.specs.declared.basics.Var.{Var}
 use Rattle.t_prim.specs.Table.{arity_of}
 use Rattle.cps_ir.specs.declared.args.Arg.{Arg}
 use Rattle.cps_ir.specs.declared.args.Arg.TheVariants as Argument
@@ -19,7 +18,7 @@ use Rattle.frame_ir.specs.declared.forms.Frames.{Frames}
 use Rattle.frame_ir.specs.Arguments.{code_of_global}
 use Rattle.frame_ir.specs.Parts.{op_args, end_args, op_binds}
 use Rattle.frame_ir.specs.Sizes.{HasSmallFrames, IsSmallOp, most_frame_words}
-use Rattle.frame_ir.specs.States.{Doing, Running, Calling, Looking, Entering, Ended, Stale, Wrong, State}
+use Rattle.frame_ir.specs.States.{Doing, Stale, Wrong, State}
 use Rattle.frame_ir.specs.Running.{step, start}
 use Rattle.frame_ir.specs.Whole.{IsWhole, most_operands}
 use Rattle.frame_words.specs.Layouts.{Layout}
