@@ -1,5 +1,5 @@
 -- The run of the words keeps the run of the frames.
-use Rattle.std.proofs.Common.{◌≡◌, false, Some, refl, arith}
+use Rattle.std.proofs.Common.{◌≡◌, ℕ, Some, false, refl, arith}
 use Rattle.program_runs.specs.Runs.{End, Broken, IsProper}
 use Rattle.program_runs.specs.Keeps.{KeepsWithin}
 use Rattle.program_runs.specs.Follows.{after, runs}
@@ -19,7 +19,8 @@ use Rattle.word_selection.specs.Selections.{IsSelected}
 use Rattle.selection_steps.specs.Settings.{Setting, is_broken, room_of}
 use Rattle.selection_steps.specs.Related.{Related}
 use Rattle.selection_steps.specs.Led.{most_moves}
-use Rattle.selection_runs.specs.Laws.{EndsProperly, room_for, IsPlain, HasSizes, SelectedKeepsStamped, SelectedKeeps}
+use Rattle.selection_runs.specs.Laws.{room_for, IsPlain, HasSizes, SelectedKeepsStamped, SelectedKeeps}
+use Rattle.selection_runs.proofs.ProperEnds.{ends_properly}
 use Rattle.selection_runs.proofs.Matching.{a, b, measure, potential, simulates}
 use Rattle.selection_runs.proofs.Starting.{start_related, start_bare}
 
@@ -44,11 +45,11 @@ setting p words sizes selected plain has = record {
   heap = has.heap;
   stack = has.stack;
   whole_sizes = has.whole;
-  sound = λ n. not_broken (after (step p) n (start p)).doing (λ e is. plain.proper n e is);
+  sound = λ n. not_broken (after (step p) n (start p)).doing (λ e is. ends_properly p plain.sound n e is);
   plain = plain.plain;
 }
 
-kept_by : (m : Setting) → EndsProperly (runs (a m) (start m.p)) → KeepsWithin (room_of m) most_moves 0 (runs (a m) (start m.p)) (runs (b m) (stamped_start (words_in m.words m.sizes)))
+kept_by : (m : Setting) → ((n : ℕ) (e : End) → (runs (a m) (start m.p) n).end ≡ Some e → IsProper e) → KeepsWithin (room_of m) most_moves 0 (runs (a m) (start m.p)) (runs (b m) (stamped_start (words_in m.words m.sizes)))
 kept_by m proper =
     let bare = start_bare m in
     let moves = bare.0 in
@@ -59,7 +60,7 @@ kept_by m proper =
     proper
 
 pub selected_keeps_stamped : SelectedKeepsStamped
-selected_keeps_stamped p words sizes selected plain has = kept_by (setting p words sizes selected plain has) plain.proper
+selected_keeps_stamped p words sizes selected plain has = kept_by (setting p words sizes selected plain has) (ends_properly p plain.sound)
 
 pub selected_keeps : SelectedKeeps
 selected_keeps p words sizes selected plain has =

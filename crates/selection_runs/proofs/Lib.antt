@@ -11,5 +11,6 @@ pub mod Escaping
 pub mod Leads
 pub mod Matching
 pub mod Starting
+pub mod ProperEnds
 pub mod Keeping
 pub mod Operations

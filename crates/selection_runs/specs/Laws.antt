@@ -1,6 +1,6 @@
 -- What the run of a program of words keeps that is selected for a program with frames.
 use Rattle.std.specs.Prelude.{◌≡◌, ℕ, ◌^◌, ◌≤◌, true, Some}
-use Rattle.program_runs.specs.Runs.{End, IsProper, Run}
+use Rattle.program_runs.specs.Runs.{Broken, Run}
 use Rattle.program_runs.specs.Keeps.{Room, KeepsWithin}
 use Rattle.word_ir.specs.declared.words.Words.{Words}
 use Rattle.word_ir.specs.Ranges.{HasWords}
@@ -14,19 +14,19 @@ use Rattle.frame_ir.specs.Whole.{IsWhole}
 use Rattle.word_selection.specs.Selections.{IsSelected}
 use Rattle.selection_steps.specs.Settings.{is_plain_program}
 
--- the run ends by value or fault, if it ends
-abbrev pub EndsProperly : Run → Type 0
-EndsProperly a = (n : ℕ) (e : End) → (a n).end ≡ Some e → IsProper e
+-- no end is Stale or Wrong
+abbrev pub NeverBreaks : Run → Type 0
+NeverBreaks a = (n : ℕ) → (a n).end ≡ Some Broken → ⊥
 
 -- the room, with frames of 8 words and twice the size of the unit
 abbrev pub room_for : Frames → Sizes → Room
 room_for p sizes = record { heap = sizes.heap; stack = sizes.stack; frame = most_frame_words p.shared.size }
 
--- A whole program with small frames, none of which has a closure, whose run ends by value or fault alone.
+-- A whole program with small frames, none of which has a closure, whose run never ends Stale or Wrong.
 pub record IsPlain (p : Frames) : Type 0 where
   pub whole : IsWhole p
   pub small : HasSmallFrames p
-  pub proper : EndsProperly (run p)
+  pub sound : NeverBreaks (run p)
   pub plain : is_plain_program p ≡ true
 
 -- sizes of heap and stack that the machine may have
