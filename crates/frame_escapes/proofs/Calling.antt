@@ -33,11 +33,12 @@ use Rattle.frame_words.proofs.Values.{on_heap, heap_word}
 use Rattle.select_rows.specs.Macros.{var, of_var, word, fault, never}
 use Rattle.select_rows.proofs.Keeping.{may_read, older_kept, newest_kept}
 use Rattle.frame_stacks.specs.Stacks.{Ways, IsLasting, stack_of, frame_at}
-use Rattle.frame_stacks.specs.Frames.{is_catch, inner_word}
+use Rattle.frame_stacks.specs.Frames.{Holds, is_catch, inner_word}
 use Rattle.frame_stacks.specs.Laws.{AreParameters, Begins}
 use Rattle.frame_reads.specs.Laws.{Fails}
 use Rattle.frame_calls.specs.Codes.{params_from}
 use Rattle.frame_calls.specs.Calls.{HoldsCall}
+use Rattle.frame_calls.proofs.Calling.{none_bound}
 use Rattle.frame_calls.proofs.Passing.{word_bound}
 use Rattle.frame_objects.specs.Laws.{object_code}
 use Rattle.frame_dispatch.specs.Codes.{escape_code, kill_params, kill_code, others_code, apply_block}
@@ -118,9 +119,12 @@ dead_escape_fails words sizes l e g t s birth v c apply look kill h gone =
     (service_ends words sizes (framed words sizes (Fails sizes l e s DeadEscape) l e g t s birth (v ∷ []) c apply look kill h a b) 3 (word 10) 10 (Faulted DeadEscape) never refl refl)
     (λ block place moves steps. record { core = framed words sizes (Fails sizes l e s DeadEscape) l e g t s birth (v ∷ []) c apply look kill h a b; data_held = h.holds.data_held; block = block; place = place; moves = moves; steps = steps; there = refl })))
 
-module _ (words : Words) (sizes : Sizes) (l : Layout) (e : Escapes) (g : Ways) (t : ℕ) (s : State) (birth : ℕ) (v : Val) (c : Core) (f : Frame) (apply look kill : ℕ) (block target : WordBlock) (h : HoldsCall sizes l e g t s (Lasting (EscapeV birth)) (v ∷ []) c) (alive : is_live s birth ≡ true) (there : slice_get s.frames birth ≡ Some f) (found : slice_get words.blocks.items kill ≡ Some block) (params : block.params ≡ kill_params t) (spelled : Spells words kill 0 (kill_code t kill)) (back : slice_get words.blocks.items (g.begins f.back) ≡ Some target) (one : length target.params ≡ 1) (fresh : AreParameters t target.params) where
+module _ (words : Words) (sizes : Sizes) (l : Layout) (e : Escapes) (g : Ways) (t u r : ℕ) (s : State) (birth : ℕ) (v : Val) (c : Core) (f : Frame) (apply look kill : ℕ) (block target : WordBlock) (h : HoldsCall sizes l e g t s (Lasting (EscapeV birth)) (v ∷ []) c) (alive : is_live s birth ≡ true) (there : slice_get s.frames birth ≡ Some f) (found : slice_get words.blocks.items kill ≡ Some block) (params : block.params ≡ kill_params u) (spelled : Spells words kill 0 (kill_code u kill)) (back : slice_get words.blocks.items (g.begins f.back) ≡ Some target) (one : length target.params ≡ 1) (fresh : AreParameters r target.params) where
   abbrev R : Stamped → Type 0
-  R = Begins sizes l (kept_escapes e (older_than birth s.live)) g t (with_live s (older_than birth s.live)) (bound target.params (Lasting v ∷ [])) f.back
+  R = Begins sizes l (kept_escapes e (older_than birth s.live)) g r (with_live s (older_than birth s.live)) (bound target.params (Lasting v ∷ [])) f.back
+
+  at_kill : Holds sizes l e g u s [] c
+  at_kill = none_bound sizes l e g t u s [] c c.env c.stamps h.holds
 
   some_number : (o : Rattle.std.proofs.Common.Option ℕ) → Rattle.std.proofs.Common.is_some o ≡ true → o ≡ Some (or_zero o)
   some_number (Some n) k = refl
@@ -153,10 +157,10 @@ module _ (words : Words) (sizes : Sizes) (l : Layout) (e : Escapes) (g : Ways) (
         ∙ (older_kept ((Own (t + 7), Number 0x2D) ∷ c.env) (t + 8) (t + i) (Number (e.frame birth)) (omega (arith, lt)) ∙ (older_kept c.env (t + 7) (t + i) (Number 0x2D) (omega (arith, lt)) ∙ is))
 
     abbrev ws : word_state.Env Word
-    ws = bound_words (params_from t 3) (map (word_in third) (of_var (t + 1) ∷ of_var (t + 2) ∷ of_var (t + 9) ∷ [])) []
+    ws = bound_words (params_from u 3) (map (word_in third) (of_var (t + 1) ∷ of_var (t + 2) ∷ of_var (t + 9) ∷ [])) []
 
     abbrev ss : word_state.Env Stamp
-    ss = bound_stamps (params_from t 3) (map (stamp_in (words_in words sizes) third) (of_var (t + 1) ∷ of_var (t + 2) ∷ of_var (t + 9) ∷ [])) []
+    ss = bound_stamps (params_from u 3) (map (stamp_in (words_in words sizes) third) (of_var (t + 1) ∷ of_var (t + 2) ∷ of_var (t + 9) ∷ [])) []
 
     escape_held : kept third.env (Own (t + 1)) ≡ Some (Number (val_word l s (EscapeV birth)))
     escape_held =
@@ -166,21 +170,21 @@ module _ (words : Words) (sizes : Sizes) (l : Layout) (e : Escapes) (g : Ways) (
     value_held : kept third.env (Own (t + 2)) ≡ Some (Number (val_word l s v))
     value_held = let z : t + 2 ≡ t + 2 + 0 = omega arith in below 2 (Number (val_word l s v)) (omega arith) (ap (λ x. kept c.env (Own x)) z ∙ h.operands 0 v refl (omega arith))
 
-    begun : InLoop words sizes l e g t s v c birth f kill block target h.holds known alive caught there found params spelled back one fresh s.live c.storage.heap c.longs.heap ws
+    begun : InLoop words sizes l e g u r s v c birth f kill block target at_kill known alive caught there found params spelled back one fresh s.live c.storage.heap c.longs.heap ws
     begun =
-        let z : t ≡ t + 0 = omega arith in
+        let z : u ≡ u + 0 = omega arith in
         record {
           data_held = data_alike sizes l e (kept_escapes e s.live) s c.storage c.next c.output agree h.holds.data_held;
           stamps = λ x p at_place is. refl;
-          escape = ap (λ y. kept ws (Own y)) z ∙ word_bound t 3 0 (map (word_in third) (of_var (t + 1) ∷ of_var (t + 2) ∷ of_var (t + 9) ∷ [])) [] (Number (val_word l s (EscapeV birth))) (omega arith) (ap Some escape_held);
-          value = word_bound t 3 1 (map (word_in third) (of_var (t + 1) ∷ of_var (t + 2) ∷ of_var (t + 9) ∷ [])) [] (Number (val_word l s v)) (omega arith) (ap Some value_held);
-          inner = word_bound t 3 2 (map (word_in third) (of_var (t + 1) ∷ of_var (t + 2) ∷ of_var (t + 9) ∷ [])) [] (Number (inner_word l s s.live)) (omega arith)
+          escape = ap (λ y. kept ws (Own y)) z ∙ word_bound u 3 0 (map (word_in third) (of_var (t + 1) ∷ of_var (t + 2) ∷ of_var (t + 9) ∷ [])) [] (Number (val_word l s (EscapeV birth))) (omega arith) (ap Some escape_held);
+          value = word_bound u 3 1 (map (word_in third) (of_var (t + 1) ∷ of_var (t + 2) ∷ of_var (t + 9) ∷ [])) [] (Number (val_word l s v)) (omega arith) (ap Some value_held);
+          inner = word_bound u 3 2 (map (word_in third) (of_var (t + 1) ∷ of_var (t + 2) ∷ of_var (t + 9) ∷ [])) [] (Number (inner_word l s s.live)) (omega arith)
               (ap Some (newest_kept ((Own (t + 8), Number (e.frame birth)) ∷ (Own (t + 7), Number 0x2D) ∷ c.env) (t + 9) (Number (inner_word l s s.live))));
         }
 
-    looped : Performs words sizes R 1 (7 + 14 * ended_catches s birth s.live) (kill_code t kill) (record c { env = ws; stamps = ss })
+    looped : Performs words sizes R 1 (7 + 14 * ended_catches s birth s.live) (kill_code u kill) (record c { env = ws; stamps = ss })
     looped =
-        kills words sizes l e g t s v c birth f kill block target h.holds known alive caught there found params spelled back one fresh s.live (all_last s) (all_left sizes l g s (stack_of c) h.holds.frames) h.holds.frames.frames alive
+        kills words sizes l e g u r s v c birth f kill block target at_kill known alive caught there found params spelled back one fresh s.live (all_last s) (all_left sizes l g s (stack_of c) h.holds.frames) h.holds.frames.frames alive
         c.storage.heap c.longs.heap ws ss begun
 
     pub jumps : Performs words sizes R 1 (4 + (7 + 14 * ended_catches s birth s.live)) (Close (last.Jump kill (of_var (t + 1) ∷ of_var (t + 2) ∷ of_var (t + 9) ∷ []))) third
@@ -202,5 +206,5 @@ module _ (words : Words) (sizes : Sizes) (l : Layout) (e : Escapes) (g : Ways) (
       (loads_inner words sizes R (framed words sizes R l e g t s birth (v ∷ []) c apply look kill h a b) (t + 9) (inner_word l s s.live) 1 (4 + (7 + 14 * ended_catches s birth s.live)) (Close (last.Jump kill (of_var (t + 1) ∷ of_var (t + 2) ∷ of_var (t + 9) ∷ []))) h.holds.escapes.inner
       (λ w. jumps a b w))))
 
-pub escape_called : (words : Words) (sizes : Sizes) (l : Layout) (e : Escapes) (g : Ways) (t : ℕ) (s : State) (birth : ℕ) (v : Val) (c : Core) (f : Frame) (apply look kill : ℕ) (block target : WordBlock) → HoldsCall sizes l e g t s (Lasting (EscapeV birth)) (v ∷ []) c → is_live s birth ≡ true → slice_get s.frames birth ≡ Some f → slice_get words.blocks.items kill ≡ Some block → block.params ≡ kill_params t → Spells words kill 0 (kill_code t kill) → slice_get words.blocks.items (g.begins f.back) ≡ Some target → length target.params ≡ 1 → AreParameters t target.params → Performs words sizes (Begins sizes l (kept_escapes e (older_than birth s.live)) g t (with_live s (older_than birth s.live)) (bound target.params (Lasting v ∷ [])) f.back) 1 (41 + 14 * ended_catches s birth s.live) (apply_block t apply look kill) c
-escape_called words sizes l e g t s birth v c f apply look kill block target h alive there found params spelled back one fresh = escapes words sizes l e g t s birth v c f apply look kill block target h alive there found params spelled back one fresh
+pub escape_called : (words : Words) (sizes : Sizes) (l : Layout) (e : Escapes) (g : Ways) (t u r : ℕ) (s : State) (birth : ℕ) (v : Val) (c : Core) (f : Frame) (apply look kill : ℕ) (block target : WordBlock) → HoldsCall sizes l e g t s (Lasting (EscapeV birth)) (v ∷ []) c → is_live s birth ≡ true → slice_get s.frames birth ≡ Some f → slice_get words.blocks.items kill ≡ Some block → block.params ≡ kill_params u → Spells words kill 0 (kill_code u kill) → slice_get words.blocks.items (g.begins f.back) ≡ Some target → length target.params ≡ 1 → AreParameters r target.params → Performs words sizes (Begins sizes l (kept_escapes e (older_than birth s.live)) g r (with_live s (older_than birth s.live)) (bound target.params (Lasting v ∷ [])) f.back) 1 (41 + 14 * ended_catches s birth s.live) (apply_block t apply look kill) c
+escape_called words sizes l e g t u r s birth v c f apply look kill block target h alive there found params spelled back one fresh = escapes words sizes l e g t u r s birth v c f apply look kill block target h alive there found params spelled back one fresh

@@ -64,10 +64,10 @@ any_heap_long storage k lt =
     let at_place : (HEAP_START + 4 * k - HEAP_START) / 4 ≡ k = omega arith in
     rw (eq-eqb ((HEAP_START + 4 * k) % 4) 0 (omega arith), le-ltb (HEAP_START + 4 * k) STATICS_START (omega arith), le-ltb (HEAP_START + 4 * k) HEAP_START (omega arith), lt-ltb (HEAP_START + 4 * k) STACK_START (omega (arith, lt)), at_place) refl
 
-module _ (words : Words) (sizes : Sizes) (l : Layout) (e : Escapes) (g : Ways) (t : ℕ) (s : State) (v : Val) (c : Core) (birth : ℕ) (f : Frame) (kill : ℕ) (block target : WordBlock) (h : Holds sizes l e g t s [] c) (known : word_for l s v ≡ Some (val_word l s v)) (alive : is_live s birth ≡ true) (caught : is_catch s birth ≡ true) (there : slice_get s.frames birth ≡ Some f) (found : slice_get words.blocks.items kill ≡ Some block) (params : block.params ≡ kill_params t) (spelled : Spells words kill 0 (kill_code t kill)) (back : slice_get words.blocks.items (g.begins f.back) ≡ Some target) (one : length target.params ≡ 1) (fresh : AreParameters t target.params) where
+module _ (words : Words) (sizes : Sizes) (l : Layout) (e : Escapes) (g : Ways) (t r : ℕ) (s : State) (v : Val) (c : Core) (birth : ℕ) (f : Frame) (kill : ℕ) (block target : WordBlock) (h : Holds sizes l e g t s [] c) (known : word_for l s v ≡ Some (val_word l s v)) (alive : is_live s birth ≡ true) (caught : is_catch s birth ≡ true) (there : slice_get s.frames birth ≡ Some f) (found : slice_get words.blocks.items kill ≡ Some block) (params : block.params ≡ kill_params t) (spelled : Spells words kill 0 (kill_code t kill)) (back : slice_get words.blocks.items (g.begins f.back) ≡ Some target) (one : length target.params ≡ 1) (fresh : AreParameters r target.params) where
   -- what it comes to, with the frames that are left
   abbrev pub Goal : List ℕ → Stamped → Type 0
-  Goal births = Begins sizes l (kept_escapes e births) g t (with_live s births) (bound target.params (Lasting v ∷ [])) f.back
+  Goal births = Begins sizes l (kept_escapes e births) g r (with_live s births) (bound target.params (Lasting v ∷ [])) f.back
 
   -- with another heap and other variables
   abbrev pub now : List Word → List Stamp → word_state.Env Word → word_state.Env Stamp → Core
@@ -273,7 +273,7 @@ module _ (words : Words) (sizes : Sizes) (l : Layout) (e : Escapes) (g : Ways) (
         abbrev sixth : Core
         sixth = resetting fifth (address + 4 * 2)
 
-        left_held : Holds sizes l (kept_escapes e older) g (t + 6) (with_live s older) [] sixth
+        left_held : Holds sizes l (kept_escapes e older) g (r + (t + 6)) (with_live s older) [] sixth
         left_held = record {
           data_held = data_of_older sizes l (kept_escapes e older) s older sixth.storage c.next c.output
               (data_alike sizes l (without (kept_escapes e (x ∷ older)) x) (kept_escapes e older) s sixth.storage c.next c.output agree_caught
@@ -289,7 +289,7 @@ module _ (words : Words) (sizes : Sizes) (l : Layout) (e : Escapes) (g : Ways) (
           variables = record { each = λ y u is. absurd (cc) };
         }
 
-        value_held : HasValue words sizes l g (t + 6) (with_live s older) sixth (of_var (t + 1)) (Lasting v)
+        value_held : HasValue words sizes l g (r + (t + 6)) (with_live s older) sixth (of_var (t + 1)) (Lasting v)
         value_held = record {
           word = Number (val_word l s v);
           stamp = stamp_in (words_in words sizes) sixth (of_var (t + 1));
@@ -306,8 +306,8 @@ module _ (words : Words) (sizes : Sizes) (l : Layout) (e : Escapes) (g : Ways) (
             (λ moves steps. here_leads words sizes (Goal older) 0 _
             (record {
               core = entering (words_in words sizes) sixth target.params (of_var (t + 1) ∷ []);
-              holds = lower_held sizes l (kept_escapes e older) g t 6 (with_live s older) target.params (Lasting v ∷ []) (entering (words_in words sizes) sixth target.params (of_var (t + 1) ∷ [])) fresh
-                  (entering_held words sizes l (kept_escapes e older) g (t + 6) (with_live s older) sixth target.params (of_var (t + 1) ∷ []) (Lasting v ∷ []) [] left_held (higher_parameters t 6 target.params fresh) (value_held, tt));
+              holds = lower_held sizes l (kept_escapes e older) g r (t + 6) (with_live s older) target.params (Lasting v ∷ []) (entering (words_in words sizes) sixth target.params (of_var (t + 1) ∷ [])) fresh
+                  (entering_held words sizes l (kept_escapes e older) g (r + (t + 6)) (with_live s older) sixth target.params (of_var (t + 1) ∷ []) (Lasting v ∷ []) [] left_held (higher_parameters r (t + 6) target.params fresh) (value_held, tt));
               moves = moves;
               steps = steps;
               there = refl;

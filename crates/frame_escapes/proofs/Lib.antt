@@ -4,3 +4,4 @@ pub mod Left
 pub mod Closing
 pub mod Killing
 pub mod Calling
+pub mod Counting

@@ -13,3 +13,8 @@ kept_escapes e births = record { frame = λ b. if list_any (λ x. x == b) births
 abbrev pub ended_catches : State → ℕ → List ℕ → ℕ
 ended_catches s birth [] = 0
 ended_catches s birth (x ∷ older) = (if is_catch s x then 1 else 0) + (if x == birth then 0 else ended_catches s birth older)
+
+-- how many CATCHes there are among some frames
+abbrev pub catches : State → List ℕ → ℕ
+catches s [] = 0
+catches s (x ∷ older) = (if is_catch s x then 1 else 0) + catches s older

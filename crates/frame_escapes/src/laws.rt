@@ -1,6 +1,6 @@
 //! Laws of escapes that end, in stamped runs.
 
-ghost use Rattle.frame_escapes.specs.Laws.{CatchesAreClosed, EscapesAreCalled, DeadEscapesFail, WrongCountsFail};
+ghost use Rattle.frame_escapes.specs.Laws.{CatchesAreClosed, EscapesAreCalled, DeadEscapesFail, WrongCountsFail, CatchesAreCounted};
 
 /// The code that closes the innermost CATCH, in front of the rest of a block, comes to the rest, where its frame is gone and its escape is dead.
 pub fn catches_are_closed()
@@ -13,4 +13,9 @@ pub fn escapes_are_called()
     ensures live { EscapesAreCalled }
     ensures dead { DeadEscapesFail }
     ensures counts { WrongCountsFail }
+{}
+
+/// The CATCHes that end and those that are left are all that were live.
+pub fn catches_are_counted()
+    ensures { CatchesAreCounted }
 {}

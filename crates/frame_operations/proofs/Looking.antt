@@ -96,7 +96,7 @@ operation_of_none_fails words sizes l e g t s o c apply look kill h =
     (ends words sizes (Fails sizes l e s WrongCount) 2 (fault 2) (binding c (var (t + 7)) (Number 0x25) a) (Faulted WrongCount) (service_ends words sizes (binding c (var (t + 7)) (Number 0x25) a) 3 (word 2) 2 (Faulted WrongCount) never refl refl)
     (λ block place moves steps. record { core = binding c (var (t + 7)) (Number 0x25) a; data_held = h.holds.data_held; block = block; place = place; moves = moves; steps = steps; there = refl })))
 
-module _ (words : Words) (sizes : Sizes) (l : Layout) (e : Escapes) (g : Ways) (t : ℕ) (s : State) (o : ℕ) (v : Val) (vs : List Val) (c : Core) (apply look kill : ℕ) (block : WordBlock) (h : HoldsCall sizes l e g t s (Lasting (OperationV o)) (v ∷ vs) c) (found : slice_get words.blocks.items look ≡ Some block) (params : block.params ≡ look_params t) where
+module _ (words : Words) (sizes : Sizes) (l : Layout) (e : Escapes) (g : Ways) (t u : ℕ) (s : State) (o : ℕ) (v : Val) (vs : List Val) (c : Core) (apply look kill : ℕ) (block : WordBlock) (h : HoldsCall sizes l e g t s (Lasting (OperationV o)) (v ∷ vs) c) (found : slice_get words.blocks.items look ≡ Some block) (params : block.params ≡ look_params u) where
   abbrev number : ℕ
   number = (own sizes l e g t s o (v ∷ vs) c h).number
 
@@ -110,26 +110,26 @@ module _ (words : Words) (sizes : Sizes) (l : Layout) (e : Escapes) (g : Ways) (
   known = some_number (word_for l s v) h.known.0
 
   -- with some variables behind the header, none of which is one of the call's
-  none_at : (ws : word_state.Env Word) (ss : word_state.Env Stamp) → SameCall t c.env ws → SameCall t c.stamps ss → Performs words sizes (Looks sizes l e g t s o [] (v ∷ vs) look) 1 12 (no_methods t look) (record c { env = ws; stamps = ss })
+  none_at : (ws : word_state.Env Word) (ss : word_state.Env Stamp) → SameCall t c.env ws → SameCall t c.stamps ss → Performs words sizes (Looks sizes l e g u s o [] (v ∷ vs) look) 1 12 (no_methods t look) (record c { env = ws; stamps = ss })
   none_at ws ss same stamps =
       let own_held : kept ws (Own (t + 1)) ≡ Some (Number number) = same.each 1 (omega arith) ∙ (h.held ∙ ap Some (own sizes l e g t s o (v ∷ vs) c h).is) in
       let below = own_below sizes l e g t s o (v ∷ vs) c h in
-      compute_performs words sizes (Looks sizes l e g t s o [] (v ∷ vs) look) number 10 (number + 10) own_held refl (sum_small number 10 (omega (arith, below)))
-      (look_performs words sizes l e g t s o (v ∷ vs) c h ((Own (t + 9), Number (number + 10)) ∷ ws) ((Own (t + 9), None) ∷ ss) [] (number + 10) look block
+      compute_performs words sizes (Looks sizes l e g u s o [] (v ∷ vs) look) number 10 (number + 10) own_held refl (sum_small number 10 (omega (arith, below)))
+      (look_performs words sizes l e g t s o (v ∷ vs) c h ((Own (t + 9), Number (number + 10)) ∷ ws) ((Own (t + 9), None) ∷ ss) u [] (number + 10) look block
       (one_more t 9 c.env ws (Number (number + 10)) (omega arith) same) (one_more t 9 c.stamps ss None (omega arith) stamps) (newest_kept ws (t + 9) (Number (number + 10)))
       (own_end sizes l e g t s o (v ∷ vs) c h) found params)
 
   -- behind the count
-  behind_count : (ms : List (ℕ × ℕ)) (k : ℕ) → ((a : Stamp) → Performs words sizes (Looks sizes l e g t s o ms (v ∷ vs) look) 1 k
+  behind_count : (ms : List (ℕ × ℕ)) (k : ℕ) → ((a : Stamp) → Performs words sizes (Looks sizes l e g u s o ms (v ∷ vs) look) 1 k
       (Rattle.word_trees.specs.Trees.Ask (Rattle.word_ir.specs.declared.words.Test.TheVariants.TagIs 2) (of_var (t + 2)) (word 0)
       (Rattle.word_trees.specs.Trees.Do (Rattle.word_ir.specs.declared.words.WordOp.TheVariants.Load (var (t + 8)) (of_var (t + 2)) (negsuc 1))
       (Rattle.word_trees.specs.Trees.Ask Rattle.word_ir.specs.declared.words.Test.TheVariants.Eq (of_var (t + 8)) (word 0x21) (Rattle.word_trees.specs.Trees.Do (Rattle.word_ir.specs.declared.words.WordOp.TheVariants.Load (var (t + 9)) (of_var (t + 2)) (pos 2)) (look_at t look)) (no_methods t look)))
-      (no_methods t look)) (binding c (var (t + 7)) (Number 0x25) a)) → k ≤ 20 → Performs words sizes (Looks sizes l e g t s o ms (v ∷ vs) look) 1 40 (apply_block t apply look kill) c
+      (no_methods t look)) (binding c (var (t + 7)) (Number 0x25) a)) → k ≤ 20 → Performs words sizes (Looks sizes l e g u s o ms (v ∷ vs) look) 1 40 (apply_block t apply look kill) c
   behind_count ms k next le =
-      performs_more words sizes (Looks sizes l e g t s o ms (v ∷ vs) look) 40 (omega (arith, le))
-      (at_operations words sizes (Looks sizes l e g t s o ms (v ∷ vs) look) l e g t s o (v ∷ vs) c apply look kill h (3 + k)
+      performs_more words sizes (Looks sizes l e g u s o ms (v ∷ vs) look) 40 (omega (arith, le))
+      (at_operations words sizes (Looks sizes l e g u s o ms (v ∷ vs) look) l e g t s o (v ∷ vs) c apply look kill h (3 + k)
       (λ a.
-      ask_performs_false words sizes (Looks sizes l e g t s o ms (v ∷ vs) look) (Number (length (v ∷ vs))) (Number 0) (other_kept c.env (t + 7) t (Number 0x25) (λ eq. absurd (omega (arith, eq))) ∙ h.count) refl (ap Some (ne_eqb (length (v ∷ vs)) 0 (λ eq. absurd (omega (arith, eq)))))
+      ask_performs_false words sizes (Looks sizes l e g u s o ms (v ∷ vs) look) (Number (length (v ∷ vs))) (Number 0) (other_kept c.env (t + 7) t (Number 0x25) (λ eq. absurd (omega (arith, eq))) ∙ h.count) refl (ap Some (ne_eqb (length (v ∷ vs)) 0 (λ eq. absurd (omega (arith, eq)))))
       (next a)))
 
   header_env : (a : Stamp) → SameCall t c.env ((Own (t + 7), Number 0x25) ∷ c.env)
@@ -138,23 +138,23 @@ module _ (words : Words) (sizes : Sizes) (l : Layout) (e : Escapes) (g : Ways) (
   header_stamps : (a : Stamp) → SameCall t c.stamps ((Own (t + 7), a) ∷ c.stamps)
   header_stamps a = one_more t 7 c.stamps c.stamps a (omega arith) (same_call t c.stamps)
 
-  pub not_object_by_tag : (tag_of v ≡ 2 → ⊥) → Performs words sizes (Looks sizes l e g t s o [] (v ∷ vs) look) 1 40 (apply_block t apply look kill) c
+  pub not_object_by_tag : (tag_of v ≡ 2 → ⊥) → Performs words sizes (Looks sizes l e g u s o [] (v ∷ vs) look) 1 40 (apply_block t apply look kill) c
   not_object_by_tag differs =
       behind_count [] 15
       (λ a.
-      ask_performs_false words sizes (Looks sizes l e g t s o [] (v ∷ vs) look) (Number object) (Number 0) ((header_env a).each 2 (omega arith) ∙ object_held) refl (ap Some (ne_eqb (object % 4) 2 (λ eq. differs (sym (tag_is l s v object known) ∙ eq))))
+      ask_performs_false words sizes (Looks sizes l e g u s o [] (v ∷ vs) look) (Number object) (Number 0) ((header_env a).each 2 (omega arith) ∙ object_held) refl (ap Some (ne_eqb (object % 4) 2 (λ eq. differs (sym (tag_is l s v object known) ∙ eq))))
       (none_at ((Own (t + 7), Number 0x25) ∷ c.env) ((Own (t + 7), a) ∷ c.stamps) (header_env a) (header_stamps a))) (omega arith)
 
   -- its header is read
-  tagged : (ms : List (ℕ × ℕ)) (header k : ℕ) → tag_of v ≡ 2 → header_of v ≡ Some header → ((a b : Stamp) → Performs words sizes (Looks sizes l e g t s o ms (v ∷ vs) look) 1 k
+  tagged : (ms : List (ℕ × ℕ)) (header k : ℕ) → tag_of v ≡ 2 → header_of v ≡ Some header → ((a b : Stamp) → Performs words sizes (Looks sizes l e g u s o ms (v ∷ vs) look) 1 k
       (Rattle.word_trees.specs.Trees.Ask Rattle.word_ir.specs.declared.words.Test.TheVariants.Eq (of_var (t + 8)) (word 0x21) (Rattle.word_trees.specs.Trees.Do (Rattle.word_ir.specs.declared.words.WordOp.TheVariants.Load (var (t + 9)) (of_var (t + 2)) (pos 2)) (look_at t look)) (no_methods t look))
-      (record c { env = (Own (t + 8), Number header) ∷ (Own (t + 7), Number 0x25) ∷ c.env; stamps = (Own (t + 8), b) ∷ (Own (t + 7), a) ∷ c.stamps })) → k ≤ 15 → Performs words sizes (Looks sizes l e g t s o ms (v ∷ vs) look) 1 40 (apply_block t apply look kill) c
+      (record c { env = (Own (t + 8), Number header) ∷ (Own (t + 7), Number 0x25) ∷ c.env; stamps = (Own (t + 8), b) ∷ (Own (t + 7), a) ∷ c.stamps })) → k ≤ 15 → Performs words sizes (Looks sizes l e g u s o ms (v ∷ vs) look) 1 40 (apply_block t apply look kill) c
   tagged ms header k two is next le =
       let read : IsRead c.storage (moved object (negsuc 1)) (Number header) = header_is sizes l e s c.storage c.next c.output h.holds.data_held v object header known is in
       behind_count ms (3 + (2 + k))
       (λ a.
-      ask_performs_true words sizes (Looks sizes l e g t s o ms (v ∷ vs) look) (Number object) (Number 0) ((header_env a).each 2 (omega arith) ∙ object_held) refl (ap Some (eq-eqb (object % 4) 2 (tag_is l s v object known ∙ two)))
-      (load_performs words sizes (Looks sizes l e g t s o ms (v ∷ vs) look) object (Number header) ((header_env a).each 2 (omega arith) ∙ object_held) read.reads (may_read words sizes (binding c (var (t + 7)) (Number 0x25) a) (of_var (t + 2)) (moved object (negsuc 1)) read.outside)
+      ask_performs_true words sizes (Looks sizes l e g u s o ms (v ∷ vs) look) (Number object) (Number 0) ((header_env a).each 2 (omega arith) ∙ object_held) refl (ap Some (eq-eqb (object % 4) 2 (tag_is l s v object known ∙ two)))
+      (load_performs words sizes (Looks sizes l e g u s o ms (v ∷ vs) look) object (Number header) ((header_env a).each 2 (omega arith) ∙ object_held) read.reads (may_read words sizes (binding c (var (t + 7)) (Number 0x25) a) (of_var (t + 2)) (moved object (negsuc 1)) read.outside)
       (next a (some_stamp (long_at c.longs (moved object (negsuc 1))))))) (omega (arith, le))
 
   two_env : (header : ℕ) → SameCall t c.env ((Own (t + 8), Number header) ∷ (Own (t + 7), Number 0x25) ∷ c.env)
@@ -163,27 +163,27 @@ module _ (words : Words) (sizes : Sizes) (l : Layout) (e : Escapes) (g : Ways) (
   two_stamps : (a b : Stamp) → SameCall t c.stamps ((Own (t + 8), b) ∷ (Own (t + 7), a) ∷ c.stamps)
   two_stamps a b = one_more t 8 c.stamps ((Own (t + 7), a) ∷ c.stamps) b (omega arith) (one_more t 7 c.stamps c.stamps a (omega arith) (same_call t c.stamps))
 
-  pub not_object_by_header : (header : ℕ) → tag_of v ≡ 2 → header_of v ≡ Some header → (header == 0x21) ≡ false → Performs words sizes (Looks sizes l e g t s o [] (v ∷ vs) look) 1 40 (apply_block t apply look kill) c
+  pub not_object_by_header : (header : ℕ) → tag_of v ≡ 2 → header_of v ≡ Some header → (header == 0x21) ≡ false → Performs words sizes (Looks sizes l e g u s o [] (v ∷ vs) look) 1 40 (apply_block t apply look kill) c
   not_object_by_header header two is differs =
       tagged [] header 15 two is
       (λ a b.
-      ask_performs_false words sizes (Looks sizes l e g t s o [] (v ∷ vs) look) (Number header) (Number 0x21) (newest_kept ((Own (t + 7), Number 0x25) ∷ c.env) (t + 8) (Number header)) refl (ap Some differs)
+      ask_performs_false words sizes (Looks sizes l e g u s o [] (v ∷ vs) look) (Number header) (Number 0x21) (newest_kept ((Own (t + 7), Number 0x25) ∷ c.env) (t + 8) (Number header)) refl (ap Some differs)
       (none_at ((Own (t + 8), Number header) ∷ (Own (t + 7), Number 0x25) ∷ c.env) ((Own (t + 8), b) ∷ (Own (t + 7), a) ∷ c.stamps) (two_env header) (two_stamps a b))) (omega arith)
 
-  pub at_object : (base : ℕ) (ms : List (ℕ × ℕ)) → tag_of v ≡ 2 → header_of v ≡ Some 0x21 → IsRead c.storage (moved object (pos 2)) (Number base) → AreMethods l s c.storage base ms → Performs words sizes (Looks sizes l e g t s o ms (v ∷ vs) look) 1 40 (apply_block t apply look kill) c
+  pub at_object : (base : ℕ) (ms : List (ℕ × ℕ)) → tag_of v ≡ 2 → header_of v ≡ Some 0x21 → IsRead c.storage (moved object (pos 2)) (Number base) → AreMethods l s c.storage base ms → Performs words sizes (Looks sizes l e g u s o ms (v ∷ vs) look) 1 40 (apply_block t apply look kill) c
   at_object base ms two is read methods =
       tagged ms 0x21 14 two is
       (λ a b.
-      ask_performs_true words sizes (Looks sizes l e g t s o ms (v ∷ vs) look) (Number 0x21) (Number 0x21) (newest_kept ((Own (t + 7), Number 0x25) ∷ c.env) (t + 8) (Number 0x21)) refl refl
-      (load_performs words sizes (Looks sizes l e g t s o ms (v ∷ vs) look) object (Number base) ((two_env 0x21).each 2 (omega arith) ∙ object_held) read.reads
+      ask_performs_true words sizes (Looks sizes l e g u s o ms (v ∷ vs) look) (Number 0x21) (Number 0x21) (newest_kept ((Own (t + 7), Number 0x25) ∷ c.env) (t + 8) (Number 0x21)) refl refl
+      (load_performs words sizes (Looks sizes l e g u s o ms (v ∷ vs) look) object (Number base) ((two_env 0x21).each 2 (omega arith) ∙ object_held) read.reads
       (may_read words sizes (record c { env = (Own (t + 8), Number 0x21) ∷ (Own (t + 7), Number 0x25) ∷ c.env; stamps = (Own (t + 8), b) ∷ (Own (t + 7), a) ∷ c.stamps }) (of_var (t + 2)) (moved object (pos 2)) read.outside)
-      (look_performs words sizes l e g t s o (v ∷ vs) c h ((Own (t + 9), Number base) ∷ (Own (t + 8), Number 0x21) ∷ (Own (t + 7), Number 0x25) ∷ c.env) ((Own (t + 9), some_stamp (long_at c.longs (moved object (pos 2)))) ∷ (Own (t + 8), b) ∷ (Own (t + 7), a) ∷ c.stamps) ms base look block
+      (look_performs words sizes l e g t s o (v ∷ vs) c h ((Own (t + 9), Number base) ∷ (Own (t + 8), Number 0x21) ∷ (Own (t + 7), Number 0x25) ∷ c.env) ((Own (t + 9), some_stamp (long_at c.longs (moved object (pos 2)))) ∷ (Own (t + 8), b) ∷ (Own (t + 7), a) ∷ c.stamps) u ms base look block
       (one_more t 9 c.env ((Own (t + 8), Number 0x21) ∷ (Own (t + 7), Number 0x25) ∷ c.env) (Number base) (omega arith) (two_env 0x21))
       (one_more t 9 c.stamps ((Own (t + 8), b) ∷ (Own (t + 7), a) ∷ c.stamps) (some_stamp (long_at c.longs (moved object (pos 2)))) (omega arith) (two_stamps a b))
       (newest_kept ((Own (t + 8), Number 0x21) ∷ (Own (t + 7), Number 0x25) ∷ c.env) (t + 9) (Number base)) methods found params))) (omega arith)
 
-object_looks : (words : Words) (sizes : Sizes) (l : Layout) (e : Escapes) (g : Ways) (t : ℕ) (s : State) (o i : ℕ) (vs : List Val) (c : Core) (apply look kill : ℕ) (block : WordBlock) → HoldsCall sizes l e g t s (Lasting (OperationV o)) (ObjectV i ∷ vs) c → HasOperations l → slice_get words.blocks.items look ≡ Some block → block.params ≡ look_params t → Performs words sizes (Looks sizes l e g t s o (methods_in l s (ObjectV i)) (ObjectV i ∷ vs) look) 1 40 (apply_block t apply look kill) c
-object_looks words sizes l e g t s o i vs c apply look kill block h whole found params =
+object_looks : (words : Words) (sizes : Sizes) (l : Layout) (e : Escapes) (g : Ways) (t u : ℕ) (s : State) (o i : ℕ) (vs : List Val) (c : Core) (apply look kill : ℕ) (block : WordBlock) → HoldsCall sizes l e g t s (Lasting (OperationV o)) (ObjectV i ∷ vs) c → HasOperations l → slice_get words.blocks.items look ≡ Some block → block.params ≡ look_params u → Performs words sizes (Looks sizes l e g u s o (methods_in l s (ObjectV i)) (ObjectV i ∷ vs) look) 1 40 (apply_block t apply look kill) c
+object_looks words sizes l e g t u s o i vs c apply look kill block h whole found params =
     let n : ℕ = val_word l s (ObjectV i) in
     let p : OnHeap s 2 (AnObject i) (val_word l s (ObjectV i)) = on_heap s 2 (AnObject i) (val_word l s (ObjectV i)) (some_number (word_for l s (ObjectV i)) h.known.0) in
     let made : IsMade l s (AnObject i) = made_is sizes l e s c.storage c.next c.output h.holds.data_held (AnObject i) p.place p.found in
@@ -194,22 +194,22 @@ object_looks words sizes l e g t s o i vs c apply look kill block h whole found 
     let second : slice_get (thing_contents l e s (AnObject i)) 1 ≡ Some (Number (or_zero (fixed_address l (TemplateOf made.0.template)))) = rw there refl in
     let r : IsRead c.storage (val_word l s (ObjectV i) - 2 + 4 * 1) (Number (or_zero (fixed_address l (TemplateOf made.0.template)))) = heap_word sizes l e s c.storage c.next c.output h.holds.data_held 2 (AnObject i) (val_word l s (ObjectV i)) 1 (Number (or_zero (fixed_address l (TemplateOf made.0.template)))) p second in
     let address : val_word l s (ObjectV i) - 2 + 4 * 1 ≡ moved (val_word l s (ObjectV i)) (pos 2) = let q = r.outside in omega (arith, p.word, q) in
-    subst (λ ms. Performs words sizes (Looks sizes l e g t s o ms (ObjectV i ∷ vs) look) 1 40 (apply_block t apply look kill) c) (sym methods)
-    (at_object words sizes l e g t s o (ObjectV i) vs c apply look kill block h found params (or_zero (fixed_address l (TemplateOf made.0.template))) (l.methods made.0.template) refl refl
+    subst (λ ms. Performs words sizes (Looks sizes l e g u s o ms (ObjectV i ∷ vs) look) 1 40 (apply_block t apply look kill) c) (sym methods)
+    (at_object words sizes l e g t u s o (ObjectV i) vs c apply look kill block h found params (or_zero (fixed_address l (TemplateOf made.0.template))) (l.methods made.0.template) refl refl
     (subst (λ a. IsRead c.storage a (Number (or_zero (fixed_address l (TemplateOf made.0.template))))) address r)
     (template_methods sizes l e s c made.0.template h.holds.data_held whole made.4))
 
-pub operation_looks : (words : Words) (sizes : Sizes) (l : Layout) (e : Escapes) (g : Ways) (t : ℕ) (s : State) (o : ℕ) (v : Val) (vs : List Val) (c : Core) (apply look kill : ℕ) (block : WordBlock) → HoldsCall sizes l e g t s (Lasting (OperationV o)) (v ∷ vs) c → HasOperations l → slice_get words.blocks.items look ≡ Some block → block.params ≡ look_params t → Performs words sizes (Looks sizes l e g t s o (methods_in l s v) (v ∷ vs) look) 1 40 (apply_block t apply look kill) c
-operation_looks words sizes l e g t s o (FixV x) vs c apply look kill block h whole found params = not_object_by_tag words sizes l e g t s o (FixV x) vs c apply look kill block h found params (λ eq. absurd (cc))
-operation_looks words sizes l e g t s o (CharV x) vs c apply look kill block h whole found params = not_object_by_tag words sizes l e g t s o (CharV x) vs c apply look kill block h found params (λ eq. absurd (cc))
-operation_looks words sizes l e g t s o NilV vs c apply look kill block h whole found params = not_object_by_tag words sizes l e g t s o NilV vs c apply look kill block h found params (λ eq. absurd (cc))
-operation_looks words sizes l e g t s o TrueV vs c apply look kill block h whole found params = not_object_by_tag words sizes l e g t s o TrueV vs c apply look kill block h found params (λ eq. absurd (cc))
-operation_looks words sizes l e g t s o (PairV x) vs c apply look kill block h whole found params = not_object_by_tag words sizes l e g t s o (PairV x) vs c apply look kill block h found params (λ eq. absurd (cc))
-operation_looks words sizes l e g t s o (SymbolV x) vs c apply look kill block h whole found params = not_object_by_header words sizes l e g t s o (SymbolV x) vs c apply look kill block h found params 0x19 refl refl refl
-operation_looks words sizes l e g t s o (StringV x) vs c apply look kill block h whole found params = not_object_by_header words sizes l e g t s o (StringV x) vs c apply look kill block h found params 0x15 refl refl refl
-operation_looks words sizes l e g t s o (VectorV x) vs c apply look kill block h whole found params = not_object_by_header words sizes l e g t s o (VectorV x) vs c apply look kill block h found params 0x11 refl refl refl
-operation_looks words sizes l e g t s o (ClosureV x) vs c apply look kill block h whole found params = not_object_by_header words sizes l e g t s o (ClosureV x) vs c apply look kill block h found params 0x1D refl refl refl
-operation_looks words sizes l e g t s o (ObjectV x) vs c apply look kill block h whole found params = object_looks words sizes l e g t s o x vs c apply look kill block h whole found params
-operation_looks words sizes l e g t s o (OperationV x) vs c apply look kill block h whole found params = not_object_by_header words sizes l e g t s o (OperationV x) vs c apply look kill block h found params 0x25 refl refl refl
-operation_looks words sizes l e g t s o (BuiltinV x) vs c apply look kill block h whole found params = not_object_by_header words sizes l e g t s o (BuiltinV x) vs c apply look kill block h found params 0x29 refl refl refl
-operation_looks words sizes l e g t s o (EscapeV x) vs c apply look kill block h whole found params = not_object_by_header words sizes l e g t s o (EscapeV x) vs c apply look kill block h found params 0x2D refl refl refl
+pub operation_looks : (words : Words) (sizes : Sizes) (l : Layout) (e : Escapes) (g : Ways) (t u : ℕ) (s : State) (o : ℕ) (v : Val) (vs : List Val) (c : Core) (apply look kill : ℕ) (block : WordBlock) → HoldsCall sizes l e g t s (Lasting (OperationV o)) (v ∷ vs) c → HasOperations l → slice_get words.blocks.items look ≡ Some block → block.params ≡ look_params u → Performs words sizes (Looks sizes l e g u s o (methods_in l s v) (v ∷ vs) look) 1 40 (apply_block t apply look kill) c
+operation_looks words sizes l e g t u s o (FixV x) vs c apply look kill block h whole found params = not_object_by_tag words sizes l e g t u s o (FixV x) vs c apply look kill block h found params (λ eq. absurd (cc))
+operation_looks words sizes l e g t u s o (CharV x) vs c apply look kill block h whole found params = not_object_by_tag words sizes l e g t u s o (CharV x) vs c apply look kill block h found params (λ eq. absurd (cc))
+operation_looks words sizes l e g t u s o NilV vs c apply look kill block h whole found params = not_object_by_tag words sizes l e g t u s o NilV vs c apply look kill block h found params (λ eq. absurd (cc))
+operation_looks words sizes l e g t u s o TrueV vs c apply look kill block h whole found params = not_object_by_tag words sizes l e g t u s o TrueV vs c apply look kill block h found params (λ eq. absurd (cc))
+operation_looks words sizes l e g t u s o (PairV x) vs c apply look kill block h whole found params = not_object_by_tag words sizes l e g t u s o (PairV x) vs c apply look kill block h found params (λ eq. absurd (cc))
+operation_looks words sizes l e g t u s o (SymbolV x) vs c apply look kill block h whole found params = not_object_by_header words sizes l e g t u s o (SymbolV x) vs c apply look kill block h found params 0x19 refl refl refl
+operation_looks words sizes l e g t u s o (StringV x) vs c apply look kill block h whole found params = not_object_by_header words sizes l e g t u s o (StringV x) vs c apply look kill block h found params 0x15 refl refl refl
+operation_looks words sizes l e g t u s o (VectorV x) vs c apply look kill block h whole found params = not_object_by_header words sizes l e g t u s o (VectorV x) vs c apply look kill block h found params 0x11 refl refl refl
+operation_looks words sizes l e g t u s o (ClosureV x) vs c apply look kill block h whole found params = not_object_by_header words sizes l e g t u s o (ClosureV x) vs c apply look kill block h found params 0x1D refl refl refl
+operation_looks words sizes l e g t u s o (ObjectV x) vs c apply look kill block h whole found params = object_looks words sizes l e g t u s o x vs c apply look kill block h whole found params
+operation_looks words sizes l e g t u s o (OperationV x) vs c apply look kill block h whole found params = not_object_by_header words sizes l e g t u s o (OperationV x) vs c apply look kill block h found params 0x25 refl refl refl
+operation_looks words sizes l e g t u s o (BuiltinV x) vs c apply look kill block h whole found params = not_object_by_header words sizes l e g t u s o (BuiltinV x) vs c apply look kill block h found params 0x29 refl refl refl
+operation_looks words sizes l e g t u s o (EscapeV x) vs c apply look kill block h whole found params = not_object_by_header words sizes l e g t u s o (EscapeV x) vs c apply look kill block h found params 0x2D refl refl refl

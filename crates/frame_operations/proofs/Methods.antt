@@ -49,17 +49,17 @@ some_number None k = absurd (cc)
 -- ---- the loop goes on at an address
 
 module _ (words : Words) (sizes : Sizes) (l : Layout) (e : Escapes) (g : Ways) (t : ℕ) (s : State) (o : ℕ) (args : List Val) (c : Core) (h : HoldsCall sizes l e g t s (Lasting (OperationV o)) args c) where
-  pub look_performs : (ws : Rattle.word_ir.specs.State.Env Word) (ss : Rattle.word_ir.specs.State.Env Stamp) (ms : List (ℕ × ℕ)) (address look : ℕ) (block : WordBlock) → SameCall t c.env ws → SameCall t c.stamps ss → kept ws (Own (t + 9)) ≡ Some (Number address) → AreMethods l s c.storage address ms → slice_get words.blocks.items look ≡ Some block → block.params ≡ look_params t → Performs words sizes (Looks sizes l e g t s o ms args look) 1 9 (look_at t look) (record c { env = ws; stamps = ss })
-  look_performs ws ss ms address look block same stamps held methods found params =
-      enters_performs words sizes (Looks sizes l e g t s o ms args look) 0 0 9 look (look_at t look) (record c { env = ws; stamps = ss }) (entering (words_in words sizes) (record c { env = ws; stamps = ss }) block.params (passed t (t + 1) (of_var (t + 9) ∷ [])))
+  pub look_performs : (ws : Rattle.word_ir.specs.State.Env Word) (ss : Rattle.word_ir.specs.State.Env Stamp) (r : ℕ) (ms : List (ℕ × ℕ)) (address look : ℕ) (block : WordBlock) → SameCall t c.env ws → SameCall t c.stamps ss → kept ws (Own (t + 9)) ≡ Some (Number address) → AreMethods l s c.storage address ms → slice_get words.blocks.items look ≡ Some block → block.params ≡ look_params r → Performs words sizes (Looks sizes l e g r s o ms args look) 1 9 (look_at t look) (record c { env = ws; stamps = ss })
+  look_performs ws ss r ms address look block same stamps held methods found params =
+      enters_performs words sizes (Looks sizes l e g r s o ms args look) 0 0 9 look (look_at t look) (record c { env = ws; stamps = ss }) (entering (words_in words sizes) (record c { env = ws; stamps = ss }) block.params (passed t (t + 1) (of_var (t + 9) ∷ [])))
       (jump_enters words sizes (record c { env = ws; stamps = ss }) look block (passed t (t + 1) (of_var (t + 9) ∷ [])) found (sym (ap length params)))
-      (λ moves steps. here_leads words sizes (Looks sizes l e g t s o ms args look) 0 _
+      (λ moves steps. here_leads words sizes (Looks sizes l e g r s o ms args look) 0 _
       (record {
-        core = begun words sizes l e g t s (Lasting (OperationV o)) args c h ws ss same 8 (t + 1) (of_var (t + 9) ∷ []);
+        core = begun words sizes l e g t s (Lasting (OperationV o)) args c h ws ss same r 8 (t + 1) (of_var (t + 9) ∷ []);
         holds = record {
-          call = same_procedure words sizes l e g t s (Lasting (OperationV o)) args c h ws ss same stamps 8 (of_var (t + 9) ∷ []) (omega arith);
+          call = same_procedure words sizes l e g t s (Lasting (OperationV o)) args c h ws ss same stamps r 8 (of_var (t + 9) ∷ []) (omega arith);
           address = address;
-          held = word_bound t 8 7 (map (word_in (record c { env = ws; stamps = ss })) (passed t (t + 1) (of_var (t + 9) ∷ []))) [] (Number address) (omega arith) (ap Some held);
+          held = word_bound r 8 7 (map (word_in (record c { env = ws; stamps = ss })) (passed t (t + 1) (of_var (t + 9) ∷ []))) [] (Number address) (omega arith) (ap Some held);
           methods = methods;
         };
         moves = moves;
@@ -140,7 +140,7 @@ module _ (words : Words) (sizes : Sizes) (l : Layout) (e : Escapes) (g : Ways) (
       ask_performs_false words sizes (Looks sizes l e g t s o ms args look) (Number n) (Number 0) (newest_kept c.env (t + 8) (Number n)) refl (ap Some (ne_eqb n 0 (λ z. not_zero z)))
       (compute_performs words sizes (Looks sizes l e g t s o ms args look) k.address 8 (k.address + 8)
       (other_kept c.env (t + 8) (t + 7) (Number n) (λ q. absurd (omega (arith, q))) ∙ k.held) refl (sum_small k.address 8 (let r = k.methods.1.outside in omega (arith, r)))
-      (look_performs words sizes l e g t s o args c k.call ((Own (t + 9), Number (k.address + 8)) ∷ (Own (t + 8), Number n) ∷ c.env) ((Own (t + 9), None) ∷ (Own (t + 8), a) ∷ c.stamps) ms (k.address + 8) look block
+      (look_performs words sizes l e g t s o args c k.call ((Own (t + 9), Number (k.address + 8)) ∷ (Own (t + 8), Number n) ∷ c.env) ((Own (t + 9), None) ∷ (Own (t + 8), a) ∷ c.stamps) t ms (k.address + 8) look block
       (one_more t 9 c.env ((Own (t + 8), Number n) ∷ c.env) (Number (k.address + 8)) (omega arith) (one_more t 8 c.env c.env (Number n) (omega arith) (same_call t c.env)))
       (one_more t 9 c.stamps ((Own (t + 8), a) ∷ c.stamps) None (omega arith) (one_more t 8 c.stamps c.stamps a (omega arith) (same_call t c.stamps)))
       (newest_kept ((Own (t + 8), Number n) ∷ c.env) (t + 9) (Number (k.address + 8))) k.methods.3 found params)))
@@ -152,33 +152,33 @@ module _ (words : Words) (sizes : Sizes) (l : Layout) (e : Escapes) (g : Ways) (
           absurd (omega (arith, z, q))
 
 module _ (words : Words) (sizes : Sizes) (l : Layout) (e : Escapes) (g : Ways) (t : ℕ) (s : State) (o : ℕ) (m : ℕ × ℕ) (ms : List (ℕ × ℕ)) (v : Val) (vs : List Val) (c : Core) (look : ℕ) (k : HoldsLook sizes l e g t s o (m ∷ ms) (v ∷ vs) c) where
-  pub takes : (block : WordBlock) → (m.0 == o) ≡ true → slice_get words.blocks.items (l.method_entry m.1) ≡ Some block → block.params ≡ call_params t → Performs words sizes (Calls sizes l e g t s (Lasting v) (v ∷ vs) (l.method_entry m.1)) 1 16 (look_code t look) c
-  takes block equal found params =
+  pub takes : (r : ℕ) (block : WordBlock) → (m.0 == o) ≡ true → slice_get words.blocks.items (l.method_entry m.1) ≡ Some block → block.params ≡ call_params r → Performs words sizes (Calls sizes l e g r s (Lasting v) (v ∷ vs) (l.method_entry m.1)) 1 16 (look_code t look) c
+  takes r block equal found params =
       let w : ℕ = val_word l s (OperationV m.0) in
-      let Q : Stamped → Type 0 = Calls sizes l e g t s (Lasting v) (v ∷ vs) (l.method_entry m.1) in
+      let Q : Stamped → Type 0 = Calls sizes l e g r s (Lasting v) (v ∷ vs) (l.method_entry m.1) in
       let at_code : moved k.address (pos 4) ≡ k.address + 4 = omega arith in
       let z : t + 2 ≡ t + 2 + 0 = omega arith in
-      reads_one words sizes (Calls sizes l e g t s (Lasting v) (v ∷ vs) (l.method_entry m.1)) l e g t s o (v ∷ vs) c k.call k.address k.held (val_word l s (OperationV m.0)) 11 look true k.methods.1 (tells words sizes l e g t s o m ms (v ∷ vs) c look k ∙ equal)
+      reads_one words sizes (Calls sizes l e g r s (Lasting v) (v ∷ vs) (l.method_entry m.1)) l e g t s o (v ∷ vs) c k.call k.address k.held (val_word l s (OperationV m.0)) 11 look true k.methods.1 (tells words sizes l e g t s o m ms (v ∷ vs) c look k ∙ equal)
       (λ a eq.
-      load_performs words sizes (Calls sizes l e g t s (Lasting v) (v ∷ vs) (l.method_entry m.1)) k.address (Code (l.method_entry m.1)) (other_kept c.env (t + 8) (t + 7) (Number (val_word l s (OperationV m.0))) (λ q. absurd (omega (arith, q))) ∙ k.held)
-      (ap (long_at c.storage) at_code ∙ k.methods.2.reads) (may_read words sizes (first words sizes (Calls sizes l e g t s (Lasting v) (v ∷ vs) (l.method_entry m.1)) l e g t s o (v ∷ vs) c k.call k.address k.held (val_word l s (OperationV m.0)) a) (of_var (t + 7)) (moved k.address (pos 4)) (let r = k.methods.2.outside in omega (arith, at_code, r)))
+      load_performs words sizes (Calls sizes l e g r s (Lasting v) (v ∷ vs) (l.method_entry m.1)) k.address (Code (l.method_entry m.1)) (other_kept c.env (t + 8) (t + 7) (Number (val_word l s (OperationV m.0))) (λ q. absurd (omega (arith, q))) ∙ k.held)
+      (ap (long_at c.storage) at_code ∙ k.methods.2.reads) (may_read words sizes (first words sizes (Calls sizes l e g r s (Lasting v) (v ∷ vs) (l.method_entry m.1)) l e g t s o (v ∷ vs) c k.call k.address k.held (val_word l s (OperationV m.0)) a) (of_var (t + 7)) (moved k.address (pos 4)) (let r = k.methods.2.outside in omega (arith, at_code, r)))
       (enter_at a (some_stamp (long_at c.longs (moved k.address (pos 4)))) z))
       (λ a eq. absurd (cc))
     where
-      enter_at : (a b : Stamp) → t + 2 ≡ t + 2 + 0 → Performs words sizes (Calls sizes l e g t s (Lasting v) (v ∷ vs) (l.method_entry m.1)) 1 9 (Close (last.Enter (of_var (t + 9)) (passed t (t + 2) []))) (record c { env = (Own (t + 9), Code (l.method_entry m.1)) ∷ (Own (t + 8), Number (val_word l s (OperationV m.0))) ∷ c.env; stamps = (Own (t + 9), b) ∷ (Own (t + 8), a) ∷ c.stamps })
+      enter_at : (a b : Stamp) → t + 2 ≡ t + 2 + 0 → Performs words sizes (Calls sizes l e g r s (Lasting v) (v ∷ vs) (l.method_entry m.1)) 1 9 (Close (last.Enter (of_var (t + 9)) (passed t (t + 2) []))) (record c { env = (Own (t + 9), Code (l.method_entry m.1)) ∷ (Own (t + 8), Number (val_word l s (OperationV m.0))) ∷ c.env; stamps = (Own (t + 9), b) ∷ (Own (t + 8), a) ∷ c.stamps })
       enter_at a b z =
           let ws : Rattle.word_ir.specs.State.Env Word = (Own (t + 9), Code (l.method_entry m.1)) ∷ (Own (t + 8), Number (val_word l s (OperationV m.0))) ∷ c.env in
           let same : SameCall t c.env ((Own (t + 9), Code (l.method_entry m.1)) ∷ (Own (t + 8), Number (val_word l s (OperationV m.0))) ∷ c.env) =
           one_more t 9 c.env ((Own (t + 8), Number (val_word l s (OperationV m.0))) ∷ c.env) (Code (l.method_entry m.1)) (omega arith) (one_more t 8 c.env c.env (Number (val_word l s (OperationV m.0))) (omega arith) (same_call t c.env)) in
           let object : kept ((Own (t + 9), Code (l.method_entry m.1)) ∷ (Own (t + 8), Number (val_word l s (OperationV m.0))) ∷ c.env) (Own (t + 2)) ≡ Some (Number (val_word l s v)) =
           same.each 2 (omega arith) ∙ (ap (λ x. kept c.env (Own x)) z ∙ k.call.operands 0 v refl (omega arith)) in
-          enter_performs words sizes l e g t s (Lasting (OperationV o)) (v ∷ vs) c k.call ((Own (t + 9), Code (l.method_entry m.1)) ∷ (Own (t + 8), Number (val_word l s (OperationV m.0))) ∷ c.env) ((Own (t + 9), b) ∷ (Own (t + 8), a) ∷ c.stamps) same (t + 9) (t + 2) (l.method_entry m.1) (Lasting v) block
+          enter_performs words sizes l e g t s (Lasting (OperationV o)) (v ∷ vs) c k.call ((Own (t + 9), Code (l.method_entry m.1)) ∷ (Own (t + 8), Number (val_word l s (OperationV m.0))) ∷ c.env) ((Own (t + 9), b) ∷ (Own (t + 8), a) ∷ c.stamps) same r (t + 9) (t + 2) (l.method_entry m.1) (Lasting v) block
           (newest_kept ((Own (t + 8), Number (val_word l s (OperationV m.0))) ∷ c.env) (t + 9) (Code (l.method_entry m.1)))
-          (begun_call words sizes l e g t s (Lasting (OperationV o)) (v ∷ vs) c k.call ((Own (t + 9), Code (l.method_entry m.1)) ∷ (Own (t + 8), Number (val_word l s (OperationV m.0))) ∷ c.env) ((Own (t + 9), b) ∷ (Own (t + 8), a) ∷ c.stamps) same 7 (t + 2) [] (Lasting v) (Number (val_word l s v)) _ (omega arith) object refl
+          (begun_call words sizes l e g t s (Lasting (OperationV o)) (v ∷ vs) c k.call ((Own (t + 9), Code (l.method_entry m.1)) ∷ (Own (t + 8), Number (val_word l s (OperationV m.0))) ∷ c.env) ((Own (t + 9), b) ∷ (Own (t + 8), a) ∷ c.stamps) same r 7 (t + 2) [] (Lasting v) (Number (val_word l s v)) _ (omega arith) object refl
           (record { number = val_word l s v; known = some_number (word_for l s v) k.call.known.0; is = refl })) found params
 
-pub method_found : (words : Words) (sizes : Sizes) (l : Layout) (e : Escapes) (g : Ways) (t : ℕ) (s : State) (o : ℕ) (m : ℕ × ℕ) (ms : List (ℕ × ℕ)) (v : Val) (vs : List Val) (c : Core) (look : ℕ) (block : WordBlock) → HoldsLook sizes l e g t s o (m ∷ ms) (v ∷ vs) c → (m.0 == o) ≡ true → slice_get words.blocks.items (l.method_entry m.1) ≡ Some block → block.params ≡ call_params t → Performs words sizes (Calls sizes l e g t s (Lasting v) (v ∷ vs) (l.method_entry m.1)) 1 16 (look_code t look) c
-method_found words sizes l e g t s o m ms v vs c look block k equal found params = takes words sizes l e g t s o m ms v vs c look k block equal found params
+pub method_found : (words : Words) (sizes : Sizes) (l : Layout) (e : Escapes) (g : Ways) (t u : ℕ) (s : State) (o : ℕ) (m : ℕ × ℕ) (ms : List (ℕ × ℕ)) (v : Val) (vs : List Val) (c : Core) (look : ℕ) (block : WordBlock) → HoldsLook sizes l e g t s o (m ∷ ms) (v ∷ vs) c → (m.0 == o) ≡ true → slice_get words.blocks.items (l.method_entry m.1) ≡ Some block → block.params ≡ call_params u → Performs words sizes (Calls sizes l e g u s (Lasting v) (v ∷ vs) (l.method_entry m.1)) 1 16 (look_code t look) c
+method_found words sizes l e g t u s o m ms v vs c look block k equal found params = takes words sizes l e g t s o m ms v vs c look k u block equal found params
 
 pub method_passed : (words : Words) (sizes : Sizes) (l : Layout) (e : Escapes) (g : Ways) (t : ℕ) (s : State) (o : ℕ) (m : ℕ × ℕ) (ms : List (ℕ × ℕ)) (args : List Val) (c : Core) (look : ℕ) (block : WordBlock) → HoldsLook sizes l e g t s o (m ∷ ms) args c → (m.0 == o) ≡ false → slice_get words.blocks.items look ≡ Some block → block.params ≡ look_params t → Performs words sizes (Looks sizes l e g t s o ms args look) 1 20 (look_code t look) c
 method_passed words sizes l e g t s o m ms args c look block k differs found params = passes words sizes l e g t s o m ms args c look k block differs found params
@@ -201,16 +201,16 @@ module _ (words : Words) (sizes : Sizes) (l : Layout) (e : Escapes) (g : Ways) (
       (load_performs words sizes Q number w (own_first words sizes Q l e g t s o args c k.call k.address k.held 0 a) read.reads (may_read words sizes (first words sizes Q l e g t s o args c k.call k.address k.held 0 a) (of_var (t + 1)) (moved number (pos 6)) read.outside)
       (next a (some_stamp (long_at c.longs (moved number (pos 6))))))))
 
-  pub goes_to_default : (code : ℕ) (block : WordBlock) → l.default_entry o ≡ Some code → slice_get words.blocks.items code ≡ Some block → block.params ≡ call_params t → Performs words sizes (Calls sizes l e g t s (Lasting (OperationV o)) args code) 1 22 (look_code t look) c
-  goes_to_default code block there found params =
-      at_default (Calls sizes l e g t s (Lasting (OperationV o)) args code) (Code code) (3 + 9) (ap default_word there)
+  pub goes_to_default : (r code : ℕ) (block : WordBlock) → l.default_entry o ≡ Some code → slice_get words.blocks.items code ≡ Some block → block.params ≡ call_params r → Performs words sizes (Calls sizes l e g r s (Lasting (OperationV o)) args code) 1 22 (look_code t look) c
+  goes_to_default r code block there found params =
+      at_default (Calls sizes l e g r s (Lasting (OperationV o)) args code) (Code code) (3 + 9) (ap default_word there)
       (λ a b.
       let same : SameCall t c.env ((Own (t + 9), Code code) ∷ (Own (t + 8), Number 0) ∷ c.env) = one_more t 9 c.env ((Own (t + 8), Number 0) ∷ c.env) (Code code) (omega arith) (one_more t 8 c.env c.env (Number 0) (omega arith) (same_call t c.env)) in
       let stamps : SameCall t c.stamps ((Own (t + 9), b) ∷ (Own (t + 8), a) ∷ c.stamps) = one_more t 9 c.stamps ((Own (t + 8), a) ∷ c.stamps) b (omega arith) (one_more t 8 c.stamps c.stamps a (omega arith) (same_call t c.stamps)) in
-      ask_performs_false words sizes (Calls sizes l e g t s (Lasting (OperationV o)) args code) (Code code) (Number 0) (newest_kept ((Own (t + 8), Number 0) ∷ c.env) (t + 9) (Code code)) refl refl
-      (enter_performs words sizes l e g t s (Lasting (OperationV o)) args c k.call ((Own (t + 9), Code code) ∷ (Own (t + 8), Number 0) ∷ c.env) ((Own (t + 9), b) ∷ (Own (t + 8), a) ∷ c.stamps) same (t + 9) (t + 1) code (Lasting (OperationV o)) block
+      ask_performs_false words sizes (Calls sizes l e g r s (Lasting (OperationV o)) args code) (Code code) (Number 0) (newest_kept ((Own (t + 8), Number 0) ∷ c.env) (t + 9) (Code code)) refl refl
+      (enter_performs words sizes l e g t s (Lasting (OperationV o)) args c k.call ((Own (t + 9), Code code) ∷ (Own (t + 8), Number 0) ∷ c.env) ((Own (t + 9), b) ∷ (Own (t + 8), a) ∷ c.stamps) same r (t + 9) (t + 1) code (Lasting (OperationV o)) block
       (newest_kept ((Own (t + 8), Number 0) ∷ c.env) (t + 9) (Code code))
-      (same_procedure words sizes l e g t s (Lasting (OperationV o)) args c k.call ((Own (t + 9), Code code) ∷ (Own (t + 8), Number 0) ∷ c.env) ((Own (t + 9), b) ∷ (Own (t + 8), a) ∷ c.stamps) same stamps 7 [] (omega arith)) found params))
+      (same_procedure words sizes l e g t s (Lasting (OperationV o)) args c k.call ((Own (t + 9), Code code) ∷ (Own (t + 8), Number 0) ∷ c.env) ((Own (t + 9), b) ∷ (Own (t + 8), a) ∷ c.stamps) same stamps r 7 [] (omega arith)) found params))
 
   pub fails_unhandled : l.default_entry o ≡ None → Performs words sizes (Fails sizes l e s NotHandled) 1 15 (look_code t look) c
   fails_unhandled none =
@@ -222,8 +222,8 @@ module _ (words : Words) (sizes : Sizes) (l : Layout) (e : Escapes) (g : Ways) (
       (service_ends words sizes (record c { env = (Own (t + 9), Number 0) ∷ (Own (t + 8), Number 0) ∷ c.env; stamps = (Own (t + 9), b) ∷ (Own (t + 8), a) ∷ c.stamps }) 3 (word 11) 11 (Faulted NotHandled) never refl refl)
       (λ block place moves steps. record { core = record c { env = (Own (t + 9), Number 0) ∷ (Own (t + 8), Number 0) ∷ c.env; stamps = (Own (t + 9), b) ∷ (Own (t + 8), a) ∷ c.stamps }; data_held = k.call.holds.data_held; block = block; place = place; moves = moves; steps = steps; there = refl })))
 
-pub default_taken : (words : Words) (sizes : Sizes) (l : Layout) (e : Escapes) (g : Ways) (t : ℕ) (s : State) (o code : ℕ) (args : List Val) (c : Core) (look : ℕ) (block : WordBlock) → HoldsLook sizes l e g t s o [] args c → l.default_entry o ≡ Some code → slice_get words.blocks.items code ≡ Some block → block.params ≡ call_params t → Performs words sizes (Calls sizes l e g t s (Lasting (OperationV o)) args code) 1 22 (look_code t look) c
-default_taken words sizes l e g t s o code args c look block k there found params = goes_to_default words sizes l e g t s o args c look k code block there found params
+pub default_taken : (words : Words) (sizes : Sizes) (l : Layout) (e : Escapes) (g : Ways) (t u : ℕ) (s : State) (o code : ℕ) (args : List Val) (c : Core) (look : ℕ) (block : WordBlock) → HoldsLook sizes l e g t s o [] args c → l.default_entry o ≡ Some code → slice_get words.blocks.items code ≡ Some block → block.params ≡ call_params u → Performs words sizes (Calls sizes l e g u s (Lasting (OperationV o)) args code) 1 22 (look_code t look) c
+default_taken words sizes l e g t u s o code args c look block k there found params = goes_to_default words sizes l e g t s o args c look k u code block there found params
 
 pub unhandled_fails : (words : Words) (sizes : Sizes) (l : Layout) (e : Escapes) (g : Ways) (t : ℕ) (s : State) (o : ℕ) (args : List Val) (c : Core) (look : ℕ) → HoldsLook sizes l e g t s o [] args c → l.default_entry o ≡ None → Performs words sizes (Fails sizes l e s NotHandled) 1 15 (look_code t look) c
 unhandled_fails words sizes l e g t s o args c look k none = fails_unhandled words sizes l e g t s o args c look k none

@@ -30,7 +30,7 @@ use Rattle.frame_stacks.specs.Stacks.{Ways, StandsFor}
 use Rattle.frame_calls.specs.Codes.{params_from, call_params}
 use Rattle.frame_calls.specs.Calls.{HoldsCall, Calls}
 use Rattle.frame_calls.proofs.Passing.{word_bound, stamp_bound, param_at}
-use Rattle.frame_calls.proofs.Calling.{nothing_bound}
+use Rattle.frame_calls.proofs.Calling.{none_bound}
 use Rattle.frame_dispatch.specs.Codes.{passed}
 
 pub other_kept : {X : Type 0} (env : word_state.Env X) (u v : ℕ) (x : X) → (u ≡ v → ⊥) → kept ((Own u, x) ∷ env) (Own v) ≡ kept env (Own v)
@@ -54,8 +54,9 @@ module _ (words : Words) (sizes : Sizes) (l : Layout) (e : Escapes) (g : Ways) (
   abbrev pub now : Core
   now = record c { env = ws; stamps = ss }
 
-  abbrev pub begun : ℕ → ℕ → List Operand → Core
-  begun n u more = record c { env = bound_words (params_from t n) (map (word_in now) (passed t u more)) []; stamps = bound_stamps (params_from t n) (map (stamp_in (words_in words sizes) now) (passed t u more)) [] }
+  -- at parameters from another number on
+  abbrev pub begun : ℕ → ℕ → ℕ → List Operand → Core
+  begun r n u more = record c { env = bound_words (params_from r n) (map (word_in now) (passed t u more)) []; stamps = bound_stamps (params_from r n) (map (stamp_in (words_in words sizes) now) (passed t u more)) [] }
 
   operand_at : (j : ℕ) (more : List Operand) → j < 5 → slice_get (map (word_in now) (map operand.Var (params_from (t + 2) 5) ++ more)) j ≡ Some (kept ws (Own (t + 2 + j)))
   operand_at j more lt =
@@ -64,38 +65,40 @@ module _ (words : Words) (sizes : Sizes) (l : Layout) (e : Escapes) (g : Ways) (
       ∙ ap (option_map (word_in now)) (get_left (map operand.Var (params_from (t + 2) 5)) more j (of_var (t + 2 + j)) param)
 
   -- with a procedure that a variable holds
-  pub begun_call : (n u : ℕ) (more : List Operand) (f' : Value) (w : Word) (stamp : Stamp) → 7 ≤ n → kept ws (Own u) ≡ Some w → some_stamp (kept ss (Own u)) ≡ stamp → StandsFor sizes l g s f' w stamp → HoldsCall sizes l e g t s f' args (begun n u more)
-  begun_call n u more f' w stamp le held stamped stands =
+  pub begun_call : (r n u : ℕ) (more : List Operand) (f' : Value) (w : Word) (stamp : Stamp) → 7 ≤ n → kept ws (Own u) ≡ Some w → some_stamp (kept ss (Own u)) ≡ stamp → StandsFor sizes l g s f' w stamp → HoldsCall sizes l e g r s f' args (begun r n u more)
+  begun_call r n u more f' w stamp le held stamped stands =
       let z : t ≡ t + 0 = omega arith in
+      let y : r ≡ r + 0 = omega arith in
       let first : kept ws (Own t) ≡ Some (Number (length args)) = ap (λ x. kept ws (Own x)) z ∙ (same.each 0 (omega arith) ∙ (sym (ap (λ x. kept c.env (Own x)) z) ∙ h.count)) in
       record {
-        holds = nothing_bound sizes l e g t s [] c (begun n u more).env (begun n u more).stamps h.holds;
-        count = ap (λ x. kept (begun n u more).env (Own x)) z ∙ word_bound t n 0 (map (word_in now) (passed t u more)) [] (Number (length args)) (omega (arith, le)) (ap Some first);
+        holds = none_bound sizes l e g t r s [] c (begun r n u more).env (begun r n u more).stamps h.holds;
+        count = ap (λ x. kept (begun r n u more).env (Own x)) y ∙ word_bound r n 0 (map (word_in now) (passed t u more)) [] (Number (length args)) (omega (arith, le)) (ap Some first);
         few = h.few;
         word = w;
         stamp = stamp;
-        held = word_bound t n 1 (map (word_in now) (passed t u more)) [] w (omega (arith, le)) (ap Some held);
-        stamped = ap some_stamp (stamp_bound t n 1 (map (stamp_in (words_in words sizes) now) (passed t u more)) [] (some_stamp (kept ss (Own u))) (omega (arith, le)) refl) ∙ stamped;
+        held = word_bound r n 1 (map (word_in now) (passed t u more)) [] w (omega (arith, le)) (ap Some held);
+        stamped = ap some_stamp (stamp_bound r n 1 (map (stamp_in (words_in words sizes) now) (passed t u more)) [] (some_stamp (kept ss (Own u))) (omega (arith, le)) refl) ∙ stamped;
         stands = stands;
         known = h.known;
         operands = λ i v at lt.
             let m : t + 2 + i ≡ t + (2 + i) = omega arith in
+            let q : r + 2 + i ≡ r + (2 + i) = omega arith in
             let k : 2 + i ≡ suc (suc i) = omega arith in
             let old : kept ws (Own (t + 2 + i)) ≡ Some (Number (val_word l s v)) = ap (λ x. kept ws (Own x)) m ∙ (same.each (2 + i) (omega (arith, lt)) ∙ (sym (ap (λ x. kept c.env (Own x)) m) ∙ h.operands i v at lt)) in
-            ap (λ x. kept (begun n u more).env (Own x)) m
-            ∙ word_bound t n (2 + i) (map (word_in now) (passed t u more)) [] (Number (val_word l s v)) (omega (arith, lt, le)) (ap (slice_get (map (word_in now) (passed t u more))) k ∙ (operand_at i more lt ∙ ap Some old));
+            ap (λ x. kept (begun r n u more).env (Own x)) q
+            ∙ word_bound r n (2 + i) (map (word_in now) (passed t u more)) [] (Number (val_word l s v)) (omega (arith, lt, le)) (ap (slice_get (map (word_in now) (passed t u more))) k ∙ (operand_at i more lt ∙ ap Some old));
         others = h.others;
       }
 
   -- the procedure is the same
-  pub same_procedure : SameCall t c.stamps ss → (n : ℕ) (more : List Operand) → 7 ≤ n → HoldsCall sizes l e g t s f args (begun n (t + 1) more)
-  same_procedure stamps n more le = begun_call n (t + 1) more f h.word h.stamp le (same.each 1 (omega arith) ∙ h.held) (ap some_stamp (stamps.each 1 (omega arith)) ∙ h.stamped) h.stands
+  pub same_procedure : SameCall t c.stamps ss → (r n : ℕ) (more : List Operand) → 7 ≤ n → HoldsCall sizes l e g r s f args (begun r n (t + 1) more)
+  same_procedure stamps r n more le = begun_call r n (t + 1) more f h.word h.stamp le (same.each 1 (omega arith) ∙ h.held) (ap some_stamp (stamps.each 1 (omega arith)) ∙ h.stamped) h.stands
 
   -- to the entry of a code
-  pub enter_performs : (n u turn : ℕ) (f' : Value) (block : WordBlock) → kept ws (Own n) ≡ Some (Code turn) → HoldsCall sizes l e g t s f' args (begun 7 u []) → slice_get words.blocks.items turn ≡ Some block → block.params ≡ call_params t
-      → Performs words sizes (Calls sizes l e g t s f' args turn) 1 9 (Close (last.Enter (of_var n) (passed t u []))) now
-  enter_performs n u turn f' block code call found params =
-      enters_performs words sizes (Calls sizes l e g t s f' args turn) 0 0 9 turn (Close (last.Enter (of_var n) (passed t u []))) now (entering (words_in words sizes) now block.params (passed t u []))
+  pub enter_performs : (r n u turn : ℕ) (f' : Value) (block : WordBlock) → kept ws (Own n) ≡ Some (Code turn) → HoldsCall sizes l e g r s f' args (begun r 7 u []) → slice_get words.blocks.items turn ≡ Some block → block.params ≡ call_params r
+      → Performs words sizes (Calls sizes l e g r s f' args turn) 1 9 (Close (last.Enter (of_var n) (passed t u []))) now
+  enter_performs r n u turn f' block code call found params =
+      enters_performs words sizes (Calls sizes l e g r s f' args turn) 0 0 9 turn (Close (last.Enter (of_var n) (passed t u []))) now (entering (words_in words sizes) now block.params (passed t u []))
       (enter_enters words sizes now (of_var n) turn block (passed t u []) code found)
-      (λ moves steps. here_leads words sizes (Calls sizes l e g t s f' args turn) 0 _
-      (record { core = begun 7 u []; holds = call; moves = moves; steps = steps; there = ap (λ ps. at (entering (words_in words sizes) now ps (passed t u [])) turn 0 moves steps) params }))
+      (λ moves steps. here_leads words sizes (Calls sizes l e g r s f' args turn) 0 _
+      (record { core = begun r 7 u []; holds = call; moves = moves; steps = steps; there = ap (λ ps. at (entering (words_in words sizes) now ps (passed t u [])) turn 0 moves steps) params }))

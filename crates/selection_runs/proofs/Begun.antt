@@ -1,5 +1,5 @@
 -- Where a block begins.
-use Rattle.std.proofs.Common.{◌≡◌, ℕ, ◌+◌, ◌*◌, ◌<◌, ◌≤◌, ◌==◌, ◌⊎◌, inl, inr, Bool, true, false, if◌then◌else◌, List, [], ◌∷◌, length, map, Option, Some, None, option_map, option_and_then, slice_get, refl, sym, ap, ◌∙◌, subst, arith}
+use Rattle.std.proofs.Common.{◌≡◌, ℕ, ◌+◌, ◌*◌, ◌≤◌, ◌==◌, inl, Bool, true, false, if◌then◌else◌, List, [], ◌∷◌, length, map, Option, Some, None, option_map, option_and_then, slice_get, refl, ap, ◌∙◌, subst, arith}
 use Rattle.std.specs.List.{AllByRecursion}
 use Rattle.std.proofs.lemmas.Bool.{eqb-true}
 use Rattle.t_base.specs.declared.basics.Var.{Var}
@@ -8,10 +8,10 @@ use Rattle.t_prim.specs.Values.{Val}
 use Rattle.word_ir.specs.Stamps.{Stamped}
 use Rattle.frame_ir.specs.declared.forms.FrameEnd.{FrameEnd}
 use Rattle.frame_ir.specs.declared.forms.Block.{Block}
-use Rattle.frame_ir.specs.Values.{Value, Lasting, Env, value_at}
-use Rattle.frame_ir.specs.States.{State, Running, going, wrong, or_wrong}
+use Rattle.frame_ir.specs.Values.{Value, Lasting, Env}
+use Rattle.frame_ir.specs.States.{State, Running, wrong}
 use Rattle.frame_ir.specs.Sizes.{FramesAreSmall}
-use Rattle.frame_ir.specs.Arguments.{value_of, values_of, lasting_value, lasting_values, each_of, bound}
+use Rattle.frame_ir.specs.Arguments.{value_of, values_of, lasting_value, bound}
 use Rattle.frame_ir.specs.Calls.{begun, jumped}
 use Rattle.word_trees.specs.Trees.{Spells}
 use Rattle.word_trees.specs.Leads.{Performs}
@@ -23,10 +23,10 @@ use Rattle.prim_holds.proofs.Arguments.{operand_has}
 use Rattle.prim_holds.proofs.Keeping.{count_free}
 use Rattle.word_selection.specs.Codes.{end_code}
 use Rattle.word_selection.specs.Selections.{IsBlockOf}
-use Rattle.selection_steps.specs.Settings.{Setting, choice_of, layout_of, IsSound, IsFitEnd}
-use Rattle.selection_steps.specs.Related.{ways_of, Runs, Keeps}
-use Rattle.selection_steps.specs.Led.{most_moves, saved, Comes, Led}
-use Rattle.selection_steps.proofs.Leading.{AreBelow, below_more, below_now, held_above, held_from, led_by, lookup}
+use Rattle.selection_steps.specs.Settings.{Setting, choice_of, layout_of, IsSound}
+use Rattle.selection_steps.specs.Related.{ways_of, Runs, Keeps, Stands}
+use Rattle.selection_steps.specs.Led.{most_moves, saved, caught, Comes, Led}
+use Rattle.selection_steps.proofs.Leading.{AreBelow, below_more, held_above, held_from, led_by, lookup}
 use Rattle.selection_steps.proofs.Cells.{lasting_by}
 use Rattle.selection_runs.proofs.Blocks.{IsKnown, block_known}
 
@@ -44,28 +44,34 @@ parameters_from t u (x ∷ xs) le h = (let lt = h.0 in omega (arith, lt, le), h.
 module _ (m : Setting) where
   -- ---- the start of a block
 
+  pub begun_stands : (v : State) (e : Escapes) (born : ℕ → ℕ) (t k : ℕ) (b : Block) (vs : List Value) (moves : ℕ) (y : Stamped) → slice_get m.p.blocks.items k ≡ Some b → Keeps m v
+      → Begins m.sizes (layout_of m) e (ways_of m born) t v (bound b.params vs) k y → Stands m (record v { moves = moves; doing = Running b.ops.items b.last (bound b.params vs) }) y
+  begun_stands v e born t k b vs moves y at keeps o =
+      let h : IsBlockOf (choice_of m) m.p m.words k b = m.selected.blocks.blocks k b at in
+      let known : IsKnown m b = block_known m k b at in (
+        keeps,
+        record {
+          escapes = e;
+          born = born;
+          core = o.core;
+          holds = count_free m.sizes (layout_of m) e (ways_of m born) (choice_of m).free v (bound b.params vs) o.core moves (Running b.ops.items b.last (bound b.params vs))
+              (held_above m e (ways_of m born) t v (bound b.params vs) o.core (choice_of m).free (bound_below (choice_of m).free b.params vs known.params) o.holds);
+          tree = h.tree;
+          code = h.code;
+          fits = known.fits;
+          fits_end = known.fits_end;
+          block = (choice_of m).begins k;
+          place = 0;
+          moves = o.moves;
+          steps = o.steps;
+          spelled = h.spelled;
+          there = o.there;
+        },
+      )
+
   pub begun_runs : (v : State) (e : Escapes) (born : ℕ → ℕ) (t k : ℕ) (b : Block) (vs : List Value) (moves : ℕ) (s : State) (y : Stamped) → slice_get m.p.blocks.items k ≡ Some b → Keeps m v
       → Begins m.sizes (layout_of m) e (ways_of m born) t v (bound b.params vs) k y → Comes m s (record v { moves = moves; doing = Running b.ops.items b.last (bound b.params vs) }) y
-  begun_runs v e born t k b vs moves s y at keeps o =
-      let h : IsBlockOf (choice_of m) m.p m.words k b = m.selected.blocks.blocks k b at in
-      let known : IsKnown m b = block_known m k b at in
-      inl (keeps, record {
-        escapes = e;
-        born = born;
-        core = o.core;
-        holds = count_free m.sizes (layout_of m) e (ways_of m born) (choice_of m).free v (bound b.params vs) o.core moves (Running b.ops.items b.last (bound b.params vs))
-            (held_above m e (ways_of m born) t v (bound b.params vs) o.core (choice_of m).free (bound_below (choice_of m).free b.params vs known.params) o.holds);
-        tree = h.tree;
-        code = h.code;
-        fits = known.fits;
-        fits_end = known.fits_end;
-        block = (choice_of m).begins k;
-        place = 0;
-        moves = o.moves;
-        steps = o.steps;
-        spelled = h.spelled;
-        there = o.there;
-      })
+  begun_runs v e born t k b vs moves s y at keeps o = inl (begun_stands v e born t k b vs moves y at keeps o)
 
   same_count : (P : State → Type 0) (n k : ℕ) (b : Bool) (s u : State) → (n == k) ≡ b → IsSound (if b then u else wrong s) → (n ≡ k → IsSound u → P u) → P (if b then u else wrong s)
   same_count P n k true s u eq sound h = h (eqb-true n k eq) sound
@@ -94,11 +100,11 @@ module _ (m : Setting) where
     pub end_spelled : Spells m.words sp.runs.block sp.runs.place (end_code (choice_of m) m.p.shared sp.t last)
     end_spelled = subst (Spells m.words sp.runs.block sp.runs.place) sp.is sp.runs.spelled
 
-    pub end_led : (u : State) (Q : Stamped → Type 0) (cost : ℕ) → Performs m.words m.sizes Q 1 cost (end_code (choice_of m) m.p.shared sp.t last) sp.runs.core → ((y : Stamped) → Q y → Comes m s u y)
+    pub end_led : (u : State) → caught u.frames u.live ≡ caught s.frames s.live → (Q : Stamped → Type 0) (cost : ℕ) → Performs m.words m.sizes Q 1 cost (end_code (choice_of m) m.p.shared sp.t last) sp.runs.core → ((y : Stamped) → Q y → Comes m s u y)
         → cost + saved u.doing + most_moves * s.moves ≤ most_moves * u.moves → Led m s x u
-    end_led u Q cost performs comes within =
+    end_led u same Q cost performs comes within =
         let none = sp.none in
-        led_by m s u x Q cost (end_code (choice_of m) m.p.shared sp.t last) sp.runs.core sp.runs.block sp.runs.place sp.runs.moves sp.runs.steps end_spelled sp.runs.there performs comes (omega (arith, within, none))
+        led_by m s u x Q cost (end_code (choice_of m) m.p.shared sp.t last) sp.runs.core sp.runs.block sp.runs.place sp.runs.moves sp.runs.steps end_spelled sp.runs.there performs comes (omega (arith, within, none, same))
 
     -- operands with the words of values
     pub has_value : (a : Arg) (v : Value) → IsNamed (layout_of m) m.p.shared a → value_of m.p.shared env a ≡ Some v → HasValue m.words m.sizes (layout_of m) (ways_of m sp.runs.born) sp.t s sp.runs.core (operand_of (layout_of m) m.p.shared a) v

@@ -1,11 +1,11 @@
 -- What is known of each block of a whole program.
-use Rattle.std.proofs.Common.{◌≡◌, ◌≢◌, ℕ, zero, suc, ◌+◌, ◌<◌, ◌≤◌, ◌⊎◌, ◌&&◌, inl, inr, Bool, true, false, List, [], ◌∷◌, ◌++◌, length, get_or, Some, slice_get, refl, sym, ap, ◌∙◌, subst, arith, length-append}
-use Rattle.std.specs.Prelude.{All, AllPairs, Contains, count_by, cond, if◌then◌else◌, None, Option}
+use Rattle.std.proofs.Common.{◌≡◌, ◌≢◌, ℕ, zero, suc, ◌+◌, ◌<◌, inl, Bool, true, false, List, [], ◌∷◌, ◌++◌, length, get_or, Some, slice_get, ap, subst, arith, length-append}
+use Rattle.std.specs.Prelude.{All, AllPairs, Contains, count_by, cond, if◌then◌else◌, None}
 use Rattle.std.specs.List.{AllByRecursion, list_all, flat_map}
 use Rattle.std.proofs.lemmas.Bool.{and_parts}
 use Rattle.std.proofs.lemmas.List.Sums.{sum_by-cons}
 use Rattle.std.proofs.lemmas.List.{get_or_append_left, get_or-append-add}
-use Rattle.std.proofs.lemmas.List.Elements.{All-contains_itself, All-contains, Contains-append_left, Contains-append_right}
+use Rattle.std.proofs.lemmas.List.Elements.{All-contains_itself, All-contains, Contains-append_left}
 use Rattle.t_base.specs.declared.basics.Var.{Var}
 use Rattle.t_prim.proofs.RowParts.{all_at}
 use Rattle.cps_ir.specs.declared.args.Arg.{Arg}
@@ -16,8 +16,7 @@ use Rattle.frame_ir.specs.declared.forms.FrameOp.TheVariants as Op
 use Rattle.frame_ir.specs.declared.forms.FrameEnd.{FrameEnd}
 use Rattle.frame_ir.specs.declared.forms.FrameEnd.TheVariants as Last
 use Rattle.frame_ir.specs.declared.forms.Block.{Block}
-use Rattle.frame_ir.specs.declared.forms.Frames.{Frames}
-use Rattle.frame_ir.specs.Arguments.{is_proc, number_among, proc_count}
+use Rattle.frame_ir.specs.Arguments.{is_proc, number_among}
 use Rattle.frame_ir.specs.Parts.{op_args, end_args, op_binds, block_binds, block_args, codes_of, arg_codes, targets_of}
 use Rattle.frame_ir.specs.Sizes.{AreSmall}
 use Rattle.frame_ir.specs.Whole.{IsBlock, IsArg, OpNamesAreThere, BlockNamesAreThere, IsShapedOp, IsShapedEnd}
@@ -104,15 +103,17 @@ module _ (m : Setting) where
       → AreSmall m.p.shared.size ops → AllByRecursion (IsShapedOp m.p) ops → AllByRecursion (λ op. OpNamesAreThere m.p op × All (IsArg m.p) (op_args op)) ops → AllByRecursion (IsClosureCode m.p) (flat_map codes_of ops) → list_all is_plain ops ≡ true → AreFit m ops
   fits_of [] named binds small shaped places codes plain = tt
   fits_of (op ∷ ops) named binds small shaped places codes plain =
-      let both = and_parts (is_plain op) (list_all is_plain ops) plain in
-      (record {
-        args = named.0.1;
-        named = named.0.0;
-        binds = each_left (λ x. x.0 < free) (op_binds op) (flat_map op_binds ops) binds;
-        small = small.0;
-        shaped = shape op shaped.0 places.0.0 (each_left (IsClosureCode m.p) (codes_of op) (flat_map codes_of ops) codes);
-        plain = both.0;
-      }, fits_of ops named.1 (each_right (λ x. x.0 < free) (op_binds op) (flat_map op_binds ops) binds) small.1 shaped.1 places.1 (each_right (IsClosureCode m.p) (codes_of op) (flat_map codes_of ops) codes) both.1)
+      let both = and_parts (is_plain op) (list_all is_plain ops) plain in (
+        record {
+          args = named.0.1;
+          named = named.0.0;
+          binds = each_left (λ x. x.0 < free) (op_binds op) (flat_map op_binds ops) binds;
+          small = small.0;
+          shaped = shape op shaped.0 places.0.0 (each_left (IsClosureCode m.p) (codes_of op) (flat_map codes_of ops) codes);
+          plain = both.0;
+        },
+        fits_of ops named.1 (each_right (λ x. x.0 < free) (op_binds op) (flat_map op_binds ops) binds) small.1 shaped.1 places.1 (each_right (IsClosureCode m.p) (codes_of op) (flat_map codes_of ops) codes) both.1,
+      )
 
   -- the codes of globals that are procedures come first
   among_by : {X : Type 0} (test : X → Bool) (n : ℕ) (b : Bool) (count c : ℕ) → (if b then Some n else None) ≡ Some c → c < n + (cond b 1 0 + count)
@@ -123,7 +124,7 @@ module _ (m : Setting) where
   rest_by n c count true lt = omega (arith, lt)
   rest_by n c count false lt = omega (arith, lt)
 
-  among_below : {X : Type 0} (test : X → Bool) (xs : List X) (n k c : ℕ) → number_among test n xs k ≡ Some c → c < n + count_by test xs
+  pub among_below : {X : Type 0} (test : X → Bool) (xs : List X) (n k c : ℕ) → number_among test n xs k ≡ Some c → c < n + count_by test xs
   among_below test [] n k c is = absurd (cc)
   among_below test (x ∷ xs) n zero c is = let e = sum_by-cons (λ z. cond (test z) 1 0) x xs in let lt = among_by test n (test x) (count_by test xs) c is in omega (arith, e, lt)
   among_below test (x ∷ xs) n (suc k) c is =
@@ -167,9 +168,9 @@ module _ (m : Setting) where
       let named : IsBlockNamed (choice_of m) m.p b = all_at (IsBlockNamed (choice_of m) m.p) m.p.blocks.items k b m.selected.named.blocks at in
       let places : BlockNamesAreThere m.p b = all_at (BlockNamesAreThere m.p) m.p.blocks.items k b m.whole.places.blocks at in
       let binds : AllByRecursion (λ x. x.0 < free) (block_binds b) = each_in (λ x. x.0 < free) (block_binds b)
-          (λ y inside. All-contains (λ x. x.0 < free) (flat_map (λ c. block_binds c) m.p.blocks.items) y m.selected.named.variables (contains_flat block_binds m.p.blocks.items k b y at inside)) in
+      (λ y inside. All-contains (λ x. x.0 < free) (flat_map (λ c. block_binds c) m.p.blocks.items) y m.selected.named.variables (contains_flat block_binds m.p.blocks.items k b y at inside)) in
       let codes : AllByRecursion (IsClosureCode m.p) (flat_map codes_of b.ops.items) = each_in (IsClosureCode m.p) (flat_map codes_of b.ops.items)
-          (λ y inside. inl (contains_flat (λ c. flat_map codes_of c.ops.items ++ flat_map arg_codes (block_args c)) m.p.blocks.items k b y at (Contains-append_left (flat_map codes_of b.ops.items) (flat_map arg_codes (block_args b)) y inside))) in
+      (λ y inside. inl (contains_flat (λ c. flat_map codes_of c.ops.items ++ flat_map arg_codes (block_args c)) m.p.blocks.items k b y at (Contains-append_left (flat_map codes_of b.ops.items) (flat_map arg_codes (block_args b)) y inside))) in
       record {
         fits = fits_of b.ops.items
             (each_of_all (λ op. IsOpNamed (layout_of m) op × AllByRecursion (IsNamed (layout_of m) m.p.shared) (op_args op)) b.ops.items named.0)

@@ -1,5 +1,5 @@
 -- What a closure or an object captured is read.
-use Rattle.std.proofs.Common.{◌≡◌, ℕ, zero, suc, ◌+◌, ◌*◌, ◌<◌, ◌≤◌, Bool, true, false, if◌then◌else◌, List, [], ◌∷◌, Option, Some, None, slice_get, refl, sym, ap, ◌∙◌, subst, arith}
+use Rattle.std.proofs.Common.{◌≡◌, ℕ, zero, suc, ◌+◌, ◌<◌, Bool, true, false, if◌then◌else◌, List, [], ◌∷◌, Some, slice_get, refl, subst, arith}
 use Rattle.std.specs.List.{AllByRecursion}
 use Rattle.t_base.specs.declared.basics.Var.{Var}
 use Rattle.t_prim.specs.Values.{FixV, CharV, NilV, TrueV, SymbolV, StringV, PairV, VectorV, ClosureV, ObjectV, OperationV, BuiltinV, EscapeV}
@@ -15,7 +15,7 @@ use Rattle.frame_reads.proofs.Records.{closure_read, object_read}
 use Rattle.selection_steps.specs.Settings.{Setting, choice_of, layout_of, IsSound}
 use Rattle.selection_steps.specs.Related.{ways_of, Keeps}
 use Rattle.selection_steps.specs.Led.{Led}
-use Rattle.selection_steps.proofs.Leading.{AreBelow, below_more, Spot, IsLed, acted, lookup, fit, held, below, spot_led, goes_on}
+use Rattle.selection_steps.proofs.Leading.{below_more, Spot, IsLed, acted, lookup, fit, held, below, spot_led, goes_on}
 
 pub each_at : {X : Type 0} (P : X → Type 0) (xs : List X) (i : ℕ) (x : X) → AllByRecursion P xs → slice_get xs i ≡ Some x → P x
 each_at P [] i x h at = absurd (cc)
@@ -50,7 +50,7 @@ module _ (m : Setting) (s : State) (ops : List FrameOp) (last : FrameEnd) (env :
   closure_led i c w is there captured =
       let above = sp.above in
       let lt = lower in
-      spot_led m s (Op.ClosureGet to from slot) ops last env x sp (behind w)
+      spot_led m s (Op.ClosureGet to from slot) ops last env x sp (behind w) refl
       (GoesOn m.words m.sizes (layout_of m) sp.runs.escapes (ways_of m sp.runs.born) sp.t s ((to.0, w) ∷ env) sp.rest) 2
       (closure_read m.words m.sizes (layout_of m) sp.runs.escapes (ways_of m sp.runs.born) sp.t s env sp.runs.core to from i slot c w sp.rest (held m s (Op.ClosureGet to from slot) ops last env x sp) is there captured (omega (arith, lt, above)))
       (λ y o. goes_on m s (Op.ClosureGet to from slot) ops last env x sp s sp.runs.escapes sp.runs.born ((to.0, w) ∷ env) (s.moves + 2) y (below_more (choice_of m).free env to.0 w lt (below m s (Op.ClosureGet to from slot) ops last env x sp)) sp.keeps o)
@@ -60,7 +60,7 @@ module _ (m : Setting) (s : State) (ops : List FrameOp) (last : FrameEnd) (env :
   object_led i c w is there captured =
       let above = sp.above in
       let lt = lower in
-      spot_led m s (Op.ClosureGet to from slot) ops last env x sp (behind w)
+      spot_led m s (Op.ClosureGet to from slot) ops last env x sp (behind w) refl
       (GoesOn m.words m.sizes (layout_of m) sp.runs.escapes (ways_of m sp.runs.born) sp.t s ((to.0, w) ∷ env) sp.rest) 2
       (object_read m.words m.sizes (layout_of m) sp.runs.escapes (ways_of m sp.runs.born) sp.t s env sp.runs.core to from i slot c w sp.rest (held m s (Op.ClosureGet to from slot) ops last env x sp) is there captured (omega (arith, lt, above)))
       (λ y o. goes_on m s (Op.ClosureGet to from slot) ops last env x sp s sp.runs.escapes sp.runs.born ((to.0, w) ∷ env) (s.moves + 2) y (below_more (choice_of m).free env to.0 w lt (below m s (Op.ClosureGet to from slot) ops last env x sp)) sp.keeps o)

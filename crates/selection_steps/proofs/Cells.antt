@@ -1,5 +1,5 @@
 -- A cell is read, and gets another value.
-use Rattle.std.proofs.Common.{◌≡◌, ℕ, ◌+◌, ◌*◌, ◌<◌, ◌≤◌, List, [], ◌∷◌, Option, Some, None, slice_get, option_and_then, refl, sym, ap, ◌∙◌, subst, arith}
+use Rattle.std.proofs.Common.{◌≡◌, ℕ, ◌+◌, ◌<◌, List, ◌∷◌, Option, Some, None, slice_get, option_and_then, refl, ap, ◌∙◌, arith}
 use Rattle.t_base.specs.declared.basics.Var.{Var}
 use Rattle.cps_ir.specs.declared.args.Arg.{Arg}
 use Rattle.t_prim.specs.Values.{Val}
@@ -25,7 +25,7 @@ use Rattle.prim_holds.proofs.Arguments.{operand_has}
 use Rattle.selection_steps.specs.Settings.{Setting, choice_of, layout_of, IsSound}
 use Rattle.selection_steps.specs.Related.{ways_of}
 use Rattle.selection_steps.specs.Led.{Led}
-use Rattle.selection_steps.proofs.Leading.{AreBelow, below_more, Spot, IsLed, acted, lookup, fit, held, below, spot_led, goes_on}
+use Rattle.selection_steps.proofs.Leading.{below_more, Spot, IsLed, acted, lookup, fit, held, below, spot_led, goes_on}
 
 cell_is : (v : Value) (k : ℕ) → cell_of v ≡ Some k → v ≡ CellAt k
 cell_is (CellAt n) k is = ap CellAt (cc)
@@ -69,7 +69,7 @@ module _ (m : Setting) (s : State) (ops : List FrameOp) (last : FrameEnd) (env :
       (λ v there sound3.
       let lt : to.0 < (choice_of m).free = (fit m s (Op.CellGet to cell) ops last env x sp).binds.0 in
       let above = sp.above in
-      spot_led m s (Op.CellGet to cell) ops last env x sp (going (Running ops last ((to.0, Lasting v) ∷ env)) (counted 2 s))
+      spot_led m s (Op.CellGet to cell) ops last env x sp (going (Running ops last ((to.0, Lasting v) ∷ env)) (counted 2 s)) refl
       (GoesOn m.words m.sizes (layout_of m) sp.runs.escapes (ways_of m sp.runs.born) sp.t s ((to.0, Lasting v) ∷ env) sp.rest) 2
       (cell_read m.words m.sizes (layout_of m) sp.runs.escapes (ways_of m sp.runs.born) sp.t s env sp.runs.core to cell k v sp.rest (held m s (Op.CellGet to cell) ops last env x sp) is there (omega (arith, lt, above)))
       (λ y o. goes_on m s (Op.CellGet to cell) ops last env x sp s sp.runs.escapes sp.runs.born ((to.0, Lasting v) ∷ env) (s.moves + 2) y (below_more (choice_of m).free env to.0 (Lasting v) lt (below m s (Op.CellGet to cell) ops last env x sp)) sp.keeps o)
@@ -83,7 +83,7 @@ module _ (m : Setting) (s : State) (ops : List FrameOp) (last : FrameEnd) (env :
       (λ v given sound3.
       let named = (fit m s (Op.CellSet cell value) ops last env x sp).args in
       let old = cell_there m s (Op.CellSet cell value) ops last env x sp cell k is in
-      spot_led m s (Op.CellSet cell value) ops last env x sp (going (Running ops last env) (counted 3 (with_cell_at s k v)))
+      spot_led m s (Op.CellSet cell value) ops last env x sp (going (Running ops last env) (counted 3 (with_cell_at s k v))) refl
       (GoesOn m.words m.sizes (layout_of m) sp.runs.escapes (ways_of m sp.runs.born) sp.t (with_cell_at s k v) env sp.rest) 3
       (cell_is_set m.words m.sizes (layout_of m) sp.runs.escapes (ways_of m sp.runs.born) sp.t s env sp.runs.core cell (operand_of (layout_of m) m.p.shared value) k old.0 v sp.rest (held m s (Op.CellSet cell value) ops last env x sp) is old.1 (argument_has m s (Op.CellSet cell value) ops last env x sp value v named.0 given))
       (λ y o. goes_on m s (Op.CellSet cell value) ops last env x sp (with_cell_at s k v) sp.runs.escapes sp.runs.born env (s.moves + 3) y (below m s (Op.CellSet cell value) ops last env x sp) sp.keeps o)

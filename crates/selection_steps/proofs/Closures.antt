@@ -1,5 +1,5 @@
 -- A group of closures in front of the rest of a block.
-use Rattle.std.proofs.Common.{◌≡◌, ℕ, zero, suc, ◌+◌, ◌*◌, ◌<◌, ◌≤◌, ◌⊎◌, inl, inr, Bool, true, false, List, [], ◌∷◌, ◌++◌, length, Option, Some, slice_get, refl, sym, ap, ◌∙◌, subst, arith}
+use Rattle.std.proofs.Common.{◌≡◌, ℕ, zero, suc, ◌+◌, ◌<◌, ◌≤◌, ◌⊎◌, inl, inr, true, List, [], ◌∷◌, ◌++◌, length, Some, slice_get, refl, subst, arith}
 use Rattle.std.specs.List.{AllByRecursion}
 use Rattle.std.proofs.lemmas.List.{length-append}
 use Rattle.t_base.specs.declared.basics.Var.{Var}
@@ -10,12 +10,11 @@ use Rattle.frame_ir.specs.declared.forms.FrameOp.{FrameOp}
 use Rattle.frame_ir.specs.declared.forms.FrameOp.TheVariants as Op
 use Rattle.frame_ir.specs.declared.forms.FrameEnd.{FrameEnd}
 use Rattle.frame_ir.specs.Values.{Value, Closure, Env}
-use Rattle.frame_ir.specs.States.{State, Thing, AClosure, Running, going}
-use Rattle.frame_ir.specs.Groups.{Making, makings, behind, addressed, youngest_birth, made}
+use Rattle.frame_ir.specs.States.{State, Running, going}
+use Rattle.frame_ir.specs.Groups.{Making, makings, behind, addressed, youngest_birth}
 use Rattle.frame_ir.specs.Operations.{performed}
 use Rattle.word_trees.specs.Trees.{Tree, Spells}
 use Rattle.frame_words.proofs.Growing.{all_append}
-use Rattle.frame_stacks.specs.Laws.{GoesOn}
 use Rattle.frame_heap.specs.Codes.{make_group}
 use Rattle.frame_heap.specs.Groups.{heap_records, AreOutside, closures_from, with_record, with_records}
 use Rattle.frame_heap.specs.Laws.{AreKept, GoesOnOrFull, group_cost}
@@ -23,9 +22,9 @@ use Rattle.frame_heap.proofs.Making.{group_performs}
 use Rattle.prim_holds.proofs.Keeping.{count_free}
 use Rattle.word_selection.specs.Codes.{IsCode}
 use Rattle.word_selection.specs.Selections.{IsClosureCode, IsOpNamed}
-use Rattle.selection_steps.specs.Settings.{Setting, choice_of, layout_of, IsSound, IsFit, AreFit, is_plain}
+use Rattle.selection_steps.specs.Settings.{Setting, choice_of, layout_of, IsSound, AreFit, is_plain}
 use Rattle.selection_steps.specs.Related.{ways_of, Runs, IsNew, Keeps}
-use Rattle.selection_steps.specs.Led.{saved, most_moves, Comes, Led}
+use Rattle.selection_steps.specs.Led.{saved, Comes, Led}
 use Rattle.selection_steps.proofs.Leading.{AreBelow, below_now, held_above, held_from, led_by}
 use Rattle.selection_steps.proofs.Ending.{no_heap}
 use Rattle.selection_steps.proofs.Groups.{IsPlaced, IsFitMaking, group_moves, costs_within, addresses_below, after_group, group_made}
@@ -134,23 +133,26 @@ module _ (m : Setting) (s : State) (to : Var) (code : ℕ) (kept : List Var) (at
 
   group_comes : (vss : List (List Value)) (y : Stamped) → GoesOnOrFull m.words m.sizes (layout_of m) r.escapes (ways_of m r.born) t s (with_records s (heap_records group vss)) env2 r.core rest y
       → Comes m s (onward (after_group s (heap_records group vss) (s.moves + group_moves group))) y
-  group_comes vss y (inl o) = inl (records_kept m s (heap_records group vss) (codes_of_records m group vss (all_fit m (Op.Closure to code kept at ∷ ops) r.fits)) k, record {
-    escapes = r.escapes;
-    born = r.born;
-    core = o.core;
-    holds = count_free m.sizes (layout_of m) r.escapes (ways_of m r.born) (choice_of m).free (with_records s (heap_records group vss)) env2 o.core (s.moves + group_moves group) (Running (behind ops) last env2)
-        (held_above m r.escapes (ways_of m r.born) t (with_records s (heap_records group vss)) env2 o.core (choice_of m).free lower o.holds);
-    tree = rest;
-    code = next;
-    fits = behind_fit m ops r.fits.1;
-    fits_end = r.fits_end;
-    block = o.block;
-    place = o.place;
-    moves = o.moves;
-    steps = o.steps;
-    spelled = o.spelled;
-    there = o.there;
-  })
+  group_comes vss y (inl o) = inl (
+    records_kept m s (heap_records group vss) (codes_of_records m group vss (all_fit m (Op.Closure to code kept at ∷ ops) r.fits)) k,
+    record {
+      escapes = r.escapes;
+      born = r.born;
+      core = o.core;
+      holds = count_free m.sizes (layout_of m) r.escapes (ways_of m r.born) (choice_of m).free (with_records s (heap_records group vss)) env2 o.core (s.moves + group_moves group) (Running (behind ops) last env2)
+          (held_above m r.escapes (ways_of m r.born) t (with_records s (heap_records group vss)) env2 o.core (choice_of m).free lower o.holds);
+      tree = rest;
+      code = next;
+      fits = behind_fit m ops r.fits.1;
+      fits_end = r.fits_end;
+      block = o.block;
+      place = o.place;
+      moves = o.moves;
+      steps = o.steps;
+      spelled = o.spelled;
+      there = o.there;
+    },
+  )
   group_comes vss y (inr o) = inr (no_heap m s (with_records s (heap_records group vss)) (onward (after_group s (heap_records group vss) (s.moves + group_moves group))) y r.escapes t r.core r.holds.data_held refl o)
 
   group_step : (vss : List (List Value)) → AreKept env2 group vss → AreOutside (layout_of m) group vss → Led m s x (onward (after_group s (heap_records group vss) (s.moves + group_moves group)))

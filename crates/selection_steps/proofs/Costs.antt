@@ -1,5 +1,5 @@
 -- No builtin takes more than 31 moves.
-use Rattle.std.proofs.Common.{ℕ, ◌≤◌, arith}
+use Rattle.std.proofs.Common.{◌≤◌, arith}
 use Rattle.t_base.specs.declared.builtins.Builtin.{Builtin}
 use Rattle.t_base.specs.declared.builtins.Builtin.TheVariants as builtin
 use Rattle.select_rows.specs.Codes.{code_of}

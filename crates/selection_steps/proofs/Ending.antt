@@ -1,7 +1,6 @@
 -- What follows where the run of the words has ended: by a value or a fault, or for want of room.
-use Rattle.std.proofs.Common.{◌≡◌, ℕ, ◌+◌, ◌-◌, ◌*◌, ◌/◌, ◌<◌, ◌≤◌, ◌⊎◌, inl, inr, true, false, List, length, Some, refl, sym, ap, ◌∙◌, subst, arith}
-use Rattle.program_runs.specs.Runs.{End, Faulted, Full}
-use Rattle.t_base.specs.declared.faults.Fault.{Fault}
+use Rattle.std.proofs.Common.{◌≡◌, ℕ, ◌+◌, ◌-◌, ◌*◌, ◌/◌, ◌<◌, ◌≤◌, inl, false, List, Some, ap, ◌∙◌, arith}
+use Rattle.program_runs.specs.Runs.{End, Full}
 use Rattle.word_ir.specs.Word.{Word}
 use Rattle.word_ir.specs.Storage.{Regions, Sizes, HEAP_START}
 use Rattle.word_ir.specs.Stamps.{Stamped}
@@ -14,7 +13,7 @@ use Rattle.select_rows.specs.Kept.{IsOutOfHeap}
 use Rattle.prim_holds.specs.Laws.{IsOutOfRoom}
 use Rattle.frame_ends.specs.Laws.{EndsWith}
 use Rattle.selection_steps.specs.Settings.{Setting, layout_of}
-use Rattle.selection_steps.specs.Related.{HasEnded, Keeps, Stands}
+use Rattle.selection_steps.specs.Related.{Keeps}
 use Rattle.selection_steps.specs.Led.{Comes, NoRoom}
 
 pub data_counted : (sizes : Sizes) (l : Layout) (s : State) (moves : ℕ) (doing : Doing) (e : Escapes) (storage : Regions Word) (next : ℕ) (output : List ℕ) → HoldsData sizes l e s storage next output → HoldsData sizes l e (record s { moves = moves; doing = doing }) storage next output
@@ -40,18 +39,21 @@ data_counted sizes l s moves doing e storage next output h = record {
 module _ (m : Setting) where
   -- in a state that differs in counts alone
   pub ends_by : (s v : State) (e : Escapes) (end : End) (moves : ℕ) (y : Stamped) → Keeps m v → EndsWith m.sizes (layout_of m) e v end y → Comes m s (record v { moves = moves; doing = Ended end }) y
-  ends_by s v e end moves y keeps o = inl (keeps, record {
-    escapes = e;
-    ends = record {
-      core = o.core;
-      data_held = data_counted m.sizes (layout_of m) v moves (Ended end) e o.core.storage o.core.next o.core.output o.data_held;
-      block = o.block;
-      place = o.place;
-      moves = o.moves;
-      steps = o.steps;
-      there = o.there;
-    };
-  })
+  ends_by s v e end moves y keeps o = inl (
+    keeps,
+    record {
+      escapes = e;
+      ends = record {
+        core = o.core;
+        data_held = data_counted m.sizes (layout_of m) v moves (Ended end) e o.core.storage o.core.next o.core.output o.data_held;
+        block = o.block;
+        place = o.place;
+        moves = o.moves;
+        steps = o.steps;
+        there = o.there;
+      };
+    },
+  )
 
   -- ---- heap
 
@@ -68,7 +70,7 @@ module _ (m : Setting) where
     lacking = lacking;
     enough = enough;
     output = ap (λ z. z.state.output) there ∙ output;
-    heap = taken_words y.state.next s.store.heap (ap (λ z. z.state.next) there ∙ next);
+    heap = inl (taken_words y.state.next s.store.heap (ap (λ z. z.state.next) there ∙ next));
   }
 
   -- in front of a state that has as much of the heap as a second one

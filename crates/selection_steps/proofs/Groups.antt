@@ -1,16 +1,16 @@
 -- Closures that stand directly behind each other are made.
-use Rattle.std.proofs.Common.{◌≡◌, ℕ, suc, ◌+◌, ◌*◌, ◌<◌, ◌≤◌, ◌⊎◌, inl, inr, Bool, true, false, if◌then◌else◌, List, [], ◌∷◌, ◌++◌, length, Option, Some, is_some, refl, sym, ap, ◌∙◌, subst, arith, append_assoc}
+use Rattle.std.proofs.Common.{◌≡◌, ℕ, suc, ◌+◌, ◌*◌, ◌<◌, ◌≤◌, Bool, true, false, if◌then◌else◌, List, [], ◌∷◌, ◌++◌, length, Some, is_some, refl, sym, ap, ◌∙◌, subst, arith, append_assoc}
 use Rattle.std.specs.List.{AllByRecursion, list_all}
 use Rattle.std.proofs.lemmas.List.{length-append, append-nil}
 use Rattle.t_base.specs.declared.basics.Var.{Var}
 use Rattle.frame_ir.specs.declared.forms.Place.{Place}
 use Rattle.frame_ir.specs.declared.forms.Place.TheVariants as At
-use Rattle.frame_ir.specs.Values.{Value, Lasting, Closure, Env, is_lasting, record_words}
-use Rattle.frame_ir.specs.States.{State, Thing, AClosure, wrong, counted, taking, with_closure, or_wrong}
+use Rattle.frame_ir.specs.Values.{Value, Closure, Env, is_lasting, record_words}
+use Rattle.frame_ir.specs.States.{State, Thing, AClosure, wrong, counted, taking, with_closure}
 use Rattle.frame_ir.specs.Arguments.{kept_values}
 use Rattle.frame_ir.specs.Groups.{Making, heap_count, address, with_addresses, is_empty, placed, made}
 use Rattle.frame_words.specs.Layouts.{ClosureOf, fixed_place}
-use Rattle.frame_heap.specs.Groups.{with_record, heap_records, IsOutside, AreOutside, closures_from, words_of_records, with_records}
+use Rattle.frame_heap.specs.Groups.{heap_records, AreOutside, closures_from, words_of_records, with_records}
 use Rattle.frame_heap.specs.Laws.{AreKept, group_cost}
 use Rattle.selection_steps.specs.Settings.{Setting, choice_of, layout_of, IsSound}
 use Rattle.word_selection.specs.Selections.{IsClosureCode}

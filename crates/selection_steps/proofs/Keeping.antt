@@ -1,8 +1,8 @@
 -- What all states of a run have is kept where more is made.
-use Rattle.std.proofs.Common.{◌≡◌, ℕ, ◌+◌, ◌<◌, ◌≤◌, Bool, true, false, if◌then◌else◌, List, [], ◌∷◌, ◌++◌, length, nat_lt, refl, ◌∙◌, arith}
+use Rattle.std.proofs.Common.{Bool, true, false, if◌then◌else◌, [], ◌∷◌, length, nat_lt, ◌∙◌}
 use Rattle.std.specs.List.{AllByRecursion}
 use Rattle.t_prim.specs.Values.{Val, Store, Grows}
-use Rattle.frame_ir.specs.Values.{Closure, Object}
+use Rattle.frame_ir.specs.Values.{Object}
 use Rattle.frame_ir.specs.States.{State, Thing, APair, AVector, AnObject, ACell, new_things, with_store, with_cell, with_object}
 use Rattle.frame_words.proofs.Growing.{all_append}
 use Rattle.selection_steps.specs.Settings.{Setting}

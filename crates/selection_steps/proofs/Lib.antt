@@ -1,5 +1,6 @@
 pub mod Leading
 pub mod Ending
+pub mod Caught
 pub mod Youngest
 pub mod Slots
 pub mod Captured
@@ -12,3 +13,4 @@ pub mod Prims
 pub mod Pushes
 pub mod Groups
 pub mod Closures
+pub mod Catches

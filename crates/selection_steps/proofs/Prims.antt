@@ -1,28 +1,28 @@
 -- A builtin is performed.
-use Rattle.std.proofs.Common.{◌≡◌, ℕ, ◌+◌, ◌*◌, ◌<◌, ◌≤◌, ◌⊎◌, inl, inr, List, [], ◌∷◌, length, map, Option, Some, refl, sym, ap, ◌∙◌, subst, arith}
+use Rattle.std.proofs.Common.{◌≡◌, ◌+◌, ◌<◌, inl, inr, List, ◌∷◌, length, refl, subst, arith}
 use Rattle.program_runs.specs.Runs.{Faulted}
 use Rattle.t_base.specs.declared.basics.Var.{Var}
 use Rattle.t_base.specs.declared.builtins.Builtin.{Builtin}
 use Rattle.cps_ir.specs.declared.args.Arg.{Arg}
-use Rattle.t_prim.specs.Values.{Val, Store}
+use Rattle.t_prim.specs.Values.{Val}
 use Rattle.t_prim.specs.Operands.{Row, Gives, Changes, Faults}
 use Rattle.t_prim.specs.Table.{row}
-use Rattle.t_prim.proofs.RowLaws.{row_grows}
+use Rattle.t_prim.proofs.RowLaws.{RowGrows, row_grows}
 use Rattle.word_ir.specs.Stamps.{Stamped}
 use Rattle.frame_ir.specs.declared.forms.FrameOp.{FrameOp}
 use Rattle.frame_ir.specs.declared.forms.FrameOp.TheVariants as Op
 use Rattle.frame_ir.specs.declared.forms.FrameEnd.{FrameEnd}
-use Rattle.frame_ir.specs.Values.{Value, Lasting, Env}
-use Rattle.frame_ir.specs.States.{State, Running, going, faulted, counted, or_wrong, after_row, with_store}
+use Rattle.frame_ir.specs.Values.{Lasting, Env}
+use Rattle.frame_ir.specs.States.{State, Running, going, counted, after_row, with_store}
 use Rattle.frame_ir.specs.Arguments.{lasting_values}
 use Rattle.select_rows.specs.Codes.{code_of}
-use Rattle.prim_holds.specs.Operands.{operand_of, cost_of}
+use Rattle.prim_holds.specs.Operands.{cost_of}
 use Rattle.prim_holds.specs.Laws.{PrimComes}
 use Rattle.prim_holds.proofs.Prims.{prim_performs}
 use Rattle.selection_steps.specs.Settings.{Setting, choice_of, layout_of, IsSound}
-use Rattle.selection_steps.specs.Related.{ways_of, Keeps}
-use Rattle.selection_steps.specs.Led.{Comes, Led}
-use Rattle.selection_steps.proofs.Leading.{AreBelow, below_more, Spot, IsLed, acted, lookup, fit, held, below, spot_led, goes_on}
+use Rattle.selection_steps.specs.Related.{ways_of}
+use Rattle.selection_steps.specs.Led.{saved, caught, Comes, Led}
+use Rattle.selection_steps.proofs.Leading.{below_more, Spot, IsLed, acted, lookup, fit, held, below, spot_led, goes_on}
 use Rattle.selection_steps.proofs.Ending.{ends_by, no_room}
 use Rattle.selection_steps.proofs.Costs.{row_cost}
 use Rattle.selection_steps.proofs.Keeping.{store_kept}
@@ -41,7 +41,7 @@ module _ (m : Setting) (s : State) (ops : List FrameOp) (last : FrameEnd) (env :
   row_comes vs (Gives v) is y o =
       goes_on m s (Op.Prim to b args) ops last env x sp s sp.runs.escapes sp.runs.born ((to.0, Lasting v) ∷ env) (s.moves + (1 + length args)) y (below_more (choice_of m).free env to.0 (Lasting v) lower (below m s (Op.Prim to b args) ops last env x sp)) sp.keeps o
   row_comes vs (Changes t v) is y (inl o) =
-      let grows = subst (λ r. Rattle.t_prim.proofs.RowLaws.RowGrows s.store r) is (row_grows b vs s.store) in
+      let grows = subst (λ r. RowGrows s.store r) is (row_grows b vs s.store) in
       goes_on m s (Op.Prim to b args) ops last env x sp (with_store s t) sp.runs.escapes sp.runs.born ((to.0, Lasting v) ∷ env) (s.moves + (1 + length args)) y (below_more (choice_of m).free env to.0 (Lasting v) lower (below m s (Op.Prim to b args) ops last env x sp)) (store_kept m s sp.keeps t grows) o
   row_comes vs (Changes t v) is y (inr o) = inr (no_room m s (with_store s t) (behind v (with_store counts t)) y sp.runs.escapes refl o)
   row_comes vs (Faults f) is y o =
@@ -53,10 +53,15 @@ module _ (m : Setting) (s : State) (ops : List FrameOp) (last : FrameEnd) (env :
   row_moves (Changes t v) = refl
   row_moves (Faults f) = refl
 
-  row_saves : (r : Row) → Rattle.selection_steps.specs.Led.saved (after_row r counts behind).doing ≡ 0
+  row_saves : (r : Row) → saved (after_row r counts behind).doing ≡ 0
   row_saves (Gives v) = refl
   row_saves (Changes t v) = refl
   row_saves (Faults f) = refl
+
+  row_frames : (r : Row) → caught (after_row r counts behind).frames (after_row r counts behind).live ≡ caught s.frames s.live
+  row_frames (Gives v) = refl
+  row_frames (Changes t v) = refl
+  row_frames (Faults f) = refl
 
   pub prim_led : IsSound (acted m s (Op.Prim to b args) ops last env) → IsLed m s (Op.Prim to b args) ops last env x
   prim_led sound =
@@ -69,7 +74,7 @@ module _ (m : Setting) (s : State) (ops : List FrameOp) (last : FrameEnd) (env :
       let cost = row_cost b in
       let n = row_moves (row b vs s.store) in
       let z = row_saves (row b vs s.store) in
-      spot_led m s (Op.Prim to b args) ops last env x sp (after_row (row b vs s.store) counts behind)
+      spot_led m s (Op.Prim to b args) ops last env x sp (after_row (row b vs s.store) counts behind) (row_frames (row b vs s.store))
       (PrimComes m.words m.sizes (layout_of m) sp.runs.escapes (ways_of m sp.runs.born) sp.t s env to sp.rest (row b vs s.store)) (cost_of (code_of b))
       (prim_performs m.words m.sizes (layout_of m) sp.runs.escapes (ways_of m sp.runs.born) sp.t s env sp.runs.core m.p.shared to sp.rest (held m s (Op.Prim to b args) ops last env x sp) (omega (arith, lt, above)) b args vs named given many)
       (λ y o. row_comes vs (row b vs s.store) refl y o)

@@ -1,32 +1,33 @@
 -- A frame is pushed, or the stack has no room.
-use Rattle.std.proofs.Common.{◌≡◌, ℕ, zero, suc, ◌+◌, ◌-◌, ◌*◌, ◌/◌, ◌%◌, ◌<◌, ◌≤◌, ◌⊎◌, ◌==◌, if◌then◌else◌, inl, inr, true, false, List, [], ◌∷◌, ◌++◌, length, map, Option, Some, None, slice_get, refl, sym, ap, ◌∙◌, subst, arith, All}
+use Rattle.std.proofs.Common.{◌≡◌, ℕ, zero, suc, ◌+◌, ◌*◌, ◌<◌, ◌≤◌, ◌⊎◌, ◌==◌, if◌then◌else◌, inl, inr, true, List, [], ◌∷◌, length, map, Option, Some, None, slice_get, refl, ap, ◌∙◌, arith, All}
+use Rattle.std.specs.List.{AllByRecursion}
 use Rattle.std.specs.Option.{option_map_or}
 use Rattle.t_base.specs.declared.basics.Var.{Var}
 use Rattle.t_prim.proofs.RowParts.{all_at}
 use Rattle.word_ir.specs.declared.operands.Operand.TheVariants as operand
 use Rattle.word_ir.specs.Stamps.{Stamped}
-use Rattle.frame_ir.specs.declared.forms.Place.{Place}
 use Rattle.frame_ir.specs.declared.forms.Place.TheVariants as At
 use Rattle.frame_ir.specs.declared.forms.FrameOp.{FrameOp}
 use Rattle.frame_ir.specs.declared.forms.FrameOp.TheVariants as Op
 use Rattle.frame_ir.specs.declared.forms.FrameEnd.{FrameEnd}
 use Rattle.frame_ir.specs.Values.{Value, Frame, Env, even, record_words, frame_words}
-use Rattle.frame_ir.specs.Sizes.{FramesAreSmall, most_frame_words}
-use Rattle.frame_ir.specs.States.{State, Running, going, counted, or_wrong, with_frame}
+use Rattle.frame_ir.specs.Sizes.{most_frame_words}
+use Rattle.frame_ir.specs.States.{State, Running, going, counted, with_frame}
 use Rattle.frame_ir.specs.Arguments.{kept_values}
 use Rattle.frame_ir.specs.Operations.{slots_behind, slots_of, pushed_frame}
 use Rattle.word_trees.specs.Cores.{stack_left}
-use Rattle.word_trees.specs.Leads.{Performs}
 use Rattle.frame_words.proofs.Growing.{all_append}
-use Rattle.frame_stacks.specs.Stacks.{words_of_frames}
+use Rattle.frame_stacks.specs.Stacks.{words_of_frames, stack_of}
+use Rattle.frame_stacks.proofs.Raising.{live_below}
 use Rattle.frame_stacks.specs.Laws.{IsOutOfStack}
 use Rattle.frame_stacks.proofs.Pushes.{push_ends}
 use Rattle.frame_pushes.specs.Laws.{Pushed}
 use Rattle.frame_pushes.proofs.Pushing.{push_holds}
-use Rattle.selection_steps.specs.Settings.{Setting, choice_of, layout_of, IsSound}
+use Rattle.selection_steps.specs.Settings.{Setting, layout_of, IsSound}
 use Rattle.selection_steps.specs.Related.{ways_of, Keeps}
-use Rattle.selection_steps.specs.Led.{Comes, NoRoom, Led}
+use Rattle.selection_steps.specs.Led.{caught, NoRoom, Led}
 use Rattle.selection_steps.proofs.Leading.{Spot, IsLed, acted, lookup, fit, held, below, spot_led, goes_on}
+use Rattle.selection_steps.proofs.Caught.{caught_pushed}
 use Rattle.selection_steps.proofs.Ending.{taken_words}
 
 -- ---- a frame has slots for all that it keeps
@@ -108,12 +109,18 @@ module _ (m : Setting) (s : State) (ops : List FrameOp) (last : FrameEnd) (env :
         lacking = o.lacking;
         enough = omega (arith, all, one, room);
         output = ap (λ z. z.state.output) o.there ∙ sp.runs.holds.data_held.output_is;
-        heap = taken_words m y.state.next s.store.heap (ap (λ z. z.state.next) o.there ∙ next);
+        heap = inl (taken_words m y.state.next s.store.heap (ap (λ z. z.state.next) o.there ∙ next));
       }
+
+  all_below : AllByRecursion (λ b. b < length s.frames) s.live
+  all_below = live_below m.sizes (layout_of m) (ways_of m sp.runs.born) s (stack_of sp.runs.core) s.live sp.runs.holds.frames.frames
+
+  same_caught : (vs : List Value) → caught (pushed vs).frames (pushed vs).live ≡ caught s.frames s.live
+  same_caught vs = caught_pushed s.frames (frame vs) s.live all_below ∙ (let e : 0 + caught s.frames s.live ≡ caught s.frames s.live = omega arith in e)
 
   with_room : (vs : List Value) → kept_values env kept ≡ Some vs → 4 * frame_words (frame vs) ≤ stack_left sp.runs.core → Led m s x (pushed vs)
   with_room vs have room =
-      spot_led m s (Op.Push kept back) ops last env x sp (pushed vs)
+      spot_led m s (Op.Push kept back) ops last env x sp (pushed vs) (same_caught vs)
       (Pushed m.words m.sizes (layout_of m) sp.runs.escapes (ways_of m sp.runs.born) sp.t s env (frame vs) sp.rest) (7 + 3 * length kept)
       (push_holds m.words m.sizes (layout_of m) sp.runs.escapes (ways_of m sp.runs.born) sp.t s env sp.runs.core back (slots_of ops (length kept)) kept vs sp.rest (held m s (Op.Push kept back) ops last env x sp) have (slots_more zero ops (length kept)) room)
       (λ y o. goes_on m s (Op.Push kept back) ops last env x sp (with_frame s (frame vs)) sp.runs.escapes (λ b. if b == length s.frames then o.step else sp.runs.born b) env (s.moves + (1 + length kept)) y (below m s (Op.Push kept back) ops last env x sp) (pushed_kept vs) o.goes)
@@ -121,7 +128,7 @@ module _ (m : Setting) (s : State) (ops : List FrameOp) (last : FrameEnd) (env :
 
   without_room : (vs : List Value) → stack_left sp.runs.core < 4 * frame_words (frame vs) → Led m s x (pushed vs)
   without_room vs lacking =
-      spot_led m s (Op.Push kept back) ops last env x sp (pushed vs)
+      spot_led m s (Op.Push kept back) ops last env x sp (pushed vs) (same_caught vs)
       (IsOutOfStack m.sizes s sp.runs.core (frame vs)) 4
       (push_ends m.words m.sizes (layout_of m) sp.runs.escapes (ways_of m sp.runs.born) sp.t s env sp.runs.core (frame vs) (map operand.Var kept) sp.rest (held m s (Op.Push kept back) ops last env x sp) lacking)
       (λ y o. inr (out_of_stack vs y o))

@@ -1,5 +1,5 @@
 -- A cell and an object are made.
-use Rattle.std.proofs.Common.{◌≡◌, ℕ, ◌+◌, ◌*◌, ◌<◌, ◌≤◌, ◌⊎◌, inl, inr, Bool, true, false, if◌then◌else◌, List, [], ◌∷◌, length, Option, Some, slice_get, refl, sym, ap, ◌∙◌, subst, arith}
+use Rattle.std.proofs.Common.{◌≡◌, ℕ, ◌+◌, ◌*◌, ◌<◌, inl, inr, Bool, true, false, if◌then◌else◌, List, ◌∷◌, length, Some, refl, arith}
 use Rattle.std.specs.List.{list_all}
 use Rattle.t_base.specs.declared.basics.Var.{Var}
 use Rattle.cps_ir.specs.declared.args.Arg.{Arg}
@@ -37,7 +37,7 @@ module _ (m : Setting) (s : State) (ops : List FrameOp) (last : FrameEnd) (env :
       let lt : to.0 < (choice_of m).free = (fit m s (Op.Cell to value) ops last env x sp).binds.0 in
       let above = sp.above in
       let named = (fit m s (Op.Cell to value) ops last env x sp).args in
-      spot_led m s (Op.Cell to value) ops last env x sp (going (Running ops last ((to.0, CellAt (length s.cells)) ∷ env)) (counted 2 (taking cell_words (with_cell s v))))
+      spot_led m s (Op.Cell to value) ops last env x sp (going (Running ops last ((to.0, CellAt (length s.cells)) ∷ env)) (counted 2 (taking cell_words (with_cell s v)))) refl
       (GoesOnOrFull m.words m.sizes (layout_of m) sp.runs.escapes (ways_of m sp.runs.born) sp.t s (taking cell_words (with_cell s v)) ((to.0, CellAt (length s.cells)) ∷ env) sp.runs.core sp.rest) 14
       (cell_made m.words m.sizes (layout_of m) sp.runs.escapes (ways_of m sp.runs.born) sp.t s env sp.runs.core to (operand_of (layout_of m) m.p.shared value) v sp.rest (held m s (Op.Cell to value) ops last env x sp) (argument_has m s (Op.Cell to value) ops last env x sp value v named.0 given) (omega (arith, lt, above)))
       (λ y o. goes_on_or_full m s (Op.Cell to value) ops last env x sp (taking cell_words (with_cell s v)) ((to.0, CellAt (length s.cells)) ∷ env) (s.moves + 2) y (below_more (choice_of m).free env to.0 (CellAt (length s.cells)) lt (below m s (Op.Cell to value) ops last env x sp)) (cell_kept m s sp.keeps v) o)
@@ -59,7 +59,7 @@ module _ (m : Setting) (s : State) (ops : List FrameOp) (last : FrameEnd) (env :
         let lt : to.0 < (choice_of m).free = (fit m s (Op.Object to template proc kept) ops last env x sp).binds.0 in
         let above = sp.above in
         let named = (fit m s (Op.Object to template proc kept) ops last env x sp).args in
-        spot_led m s (Op.Object to template proc kept) ops last env x sp (made f vs)
+        spot_led m s (Op.Object to template proc kept) ops last env x sp (made f vs) refl
         (GoesOnOrFull m.words m.sizes (layout_of m) sp.runs.escapes (ways_of m sp.runs.born) sp.t s (more f vs) ((to.0, Lasting (ObjectV (length s.objects))) ∷ env) sp.runs.core sp.rest) (17 + 3 * length kept)
         (object_made m.words m.sizes (layout_of m) sp.runs.escapes (ways_of m sp.runs.born) sp.t s env sp.runs.core to template (operand_of (layout_of m) m.p.shared proc) f kept vs sp.rest (held m s (Op.Object to template proc kept) ops last env x sp) (argument_has m s (Op.Object to template proc kept) ops last env x sp proc f named.0 given) have lasting (fit m s (Op.Object to template proc kept) ops last env x sp).named (omega (arith, lt, above)))
         (λ y o. goes_on_or_full m s (Op.Object to template proc kept) ops last env x sp (more f vs) ((to.0, Lasting (ObjectV (length s.objects))) ∷ env) (s.moves + (2 + length kept)) y (below_more (choice_of m).free env to.0 (Lasting (ObjectV (length s.objects))) lt (below m s (Op.Object to template proc kept) ops last env x sp)) (object_kept m s sp.keeps (object f vs)) o)
