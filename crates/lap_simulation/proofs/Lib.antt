@@ -1,3 +1,4 @@
 pub mod Turning
 pub mod Blocks
 pub mod Stepping
+pub mod Keeping
