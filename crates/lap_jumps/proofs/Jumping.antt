@@ -149,7 +149,7 @@ module _ (a : Assembly) (m : Setting) (s : WordState) (t : State) (items : List 
       let r = rooms.told b.0 (At (home.Stack n)) b.1 b.2 in
       subst (λ k. has_room s k ≡ true) (sym r.1) r.3)))
       can.distinct does 1 (Branch Bra block ∷ items) Q stands
-      (λ y v g stands2.
+      (λ y v g six stands2.
       branch a 0 v Bra block items Q stands2
       (λ h pc at. arrived a (at_pc v pc) Q (ends c.env c.keeps y v g (at_pc v pc) (beside_represents m a.labels 8 y v (at_pc v pc) housed (omega arith) g.is (beside_pc v pc 8)), at))
       (λ h pc stands3. absurd (cc)))
