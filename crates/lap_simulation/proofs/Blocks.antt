@@ -1,5 +1,5 @@
 -- From the label of a block without parameters the machine is at its operations.
-use Rattle.std.proofs.Common.{◌≡◌, ℕ, suc, ◌+◌, ◌*◌, ◌≤◌, Bool, true, false, List, [], ◌∷◌, ◌++◌, length, map, Some, slice_get, refl, sym, ap, subst, ◌∙◌, arith}
+use Rattle.std.proofs.Common.{◌≡◌, ℕ, ◌≤◌, Bool, true, false, List, [], ◌∷◌, ◌++◌, length, map, Some, slice_get, refl, ap, subst, ◌∙◌, arith}
 use Rattle.std.specs.Prelude.{if◌then◌else◌}
 use Rattle.word_ir.specs.declared.placed.Home.{Home}
 use Rattle.word_ir.specs.declared.placed.Placed.{Placed}
@@ -7,13 +7,11 @@ use Rattle.word_ir.specs.declared.words.WordBlock.{WordBlock}
 use Rattle.parallel_moves.specs.declared.Move.{Move}
 use Rattle.parallel_moves.specs.declared.OneMove.{OneMove}
 use Rattle.m68020_step.specs.Step.{State}
-use Rattle.m68020_asm.specs.declared.item.Item.{Item}
 use Rattle.lap_items.specs.Homes.{convention, home_of}
-use Rattle.lap_items.specs.Moves.{moved_items, DoesAtOnce}
+use Rattle.lap_items.specs.Moves.{moved_items}
 use Rattle.lap_items.specs.Ends.{is_taken, end_items}
 use Rattle.lap_items.specs.Program.{first_moves, moves_between, ops_items, IsEmitted}
 use Rattle.lap_paths.specs.Paths.{Assembly, Stands, IsAt}
-use Rattle.lap_blocks.specs.Laws.{Begins}
 use Rattle.lap_blocks.proofs.Blocks.{blocks_stand}
 use Rattle.lap_simulation.specs.Leads.{IsInBlock}
 

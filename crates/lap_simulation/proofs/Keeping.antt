@@ -1,23 +1,19 @@
 -- The run of the items from boot on keeps that of the words.
 use Rattle.std.specs.Prelude.{IsTrue, IsSomeAnd}
-use Rattle.std.specs.Int.{w32, to_be_bytes}
-use Rattle.std.specs.List.{flat_map}
-use Rattle.std.proofs.Common.{◌≡◌, ℕ, zero, suc, ◌+◌, ◌*◌, ◌%◌, ◌^◌, ◌≤◌, ◌<◌, ◌==◌, ◌&&◌, nat_le, Bool, true, false, List, [], ◌∷◌, ◌++◌, length, Option, Some, None, slice_get, slice_index, refl, sym, ap, subst, ◌∙◌, arith}
+use Rattle.std.proofs.Common.{◌≡◌, ℕ, ◌+◌, ◌%◌, ◌^◌, ◌≤◌, ◌==◌, ◌&&◌, nat_le, List, [], ◌∷◌, ◌++◌, Option, Some, None, slice_get, slice_index, refl, sym, ap, subst, ◌∙◌, arith}
 use Rattle.std.proofs.lemmas.Bool.{and_parts, leb-true, eqb-true}
-use Rattle.program_runs.specs.Runs.{End, Run}
 use Rattle.program_runs.specs.Keeps.{KeepsAlike, EndsWithin, IsSafe}
-use Rattle.program_runs.specs.Follows.{CostsWithin, GoesOn, runs}
+use Rattle.program_runs.specs.Follows.{GoesOn, runs}
 use Rattle.program_runs.proofs.Simulate.{starts_at, simulates_keeps}
 use Rattle.word_ir.specs.declared.placed.Placed.{Placed}
 use Rattle.word_ir.specs.declared.words.StaticWord.{StaticWord}
 use Rattle.word_ir.specs.declared.words.WordBlock.{WordBlock}
-use Rattle.word_ir.specs.State.{State as WordState, start, seen}
+use Rattle.word_ir.specs.State.{start, seen}
 use Rattle.word_ir.specs.Step.{step, placed_in, placed_run}
-use Rattle.word_ir.specs.Ranges.{HasWords}
 use Rattle.word_ir.proofs.Places.{start_in_place}
 use Rattle.static_bytes.specs.Bytes.{long_of, bytes_of, static_bytes}
 use Rattle.m68020_step.specs.Boot.{is_size, boot_of}
-use Rattle.m68020_step.specs.Ranges.{AreBytes, IsInRange}
+use Rattle.m68020_step.specs.Ranges.{AreBytes}
 use Rattle.m68020_step.specs.Step.{State}
 use Rattle.m68020_step.proofs.InRange.{below_append, bytes_of_long}
 use Rattle.m68020_step.proofs.RunInRange.{boot_in_range}
@@ -25,20 +21,18 @@ use Rattle.m68020_asm.specs.declared.item.Item.TheVariants.{Label}
 use Rattle.m68020_asm.proofs.Runs.{label_address}
 use Rattle.m68020_asm.proofs.LabelPlaces.{address_bound}
 use Rattle.std.proofs.lemmas.Option.{slice_get_within}
-use Rattle.machine_services.specs.Runs.{Progress, start_of}
+use Rattle.machine_services.specs.Runs.{start_of}
 use Rattle.item_runs.specs.Runs.{item_machine}
-use Rattle.item_runs.specs.Laws.{items_of}
 use Rattle.item_runs.proofs.Runs.{items_are_machine, items_go_on}
 use Rattle.lap_starts.proofs.Starting.{starts_represented, homes_serve}
 use Rattle.lap_paths.specs.Paths.{Assembly, code, IsAt}
 use Rattle.lap_paths.specs.Housed.{IsHoused}
 use Rattle.lap_blocks.proofs.Blocks.{found, drop_head}
-use Rattle.lap_simulation.specs.Leads.{IsInBlock}
 use Rattle.lap_simulation.specs.Laws.{IsBuilt, sizes_of, EndsLead, EmittedKeeps}
 use Rattle.lap_simulation.proofs.Blocks.{at_start}
-use Rattle.lap_simulation.proofs.Stepping.{Stage, goes, Going, simulates}
+use Rattle.lap_simulation.proofs.Stepping.{Stage, goes, simulates}
 
-size_small : (n : ℕ) → IsTrue (is_size n) → n ≤ 2 ^ 28
+pub size_small : (n : ℕ) → IsTrue (is_size n) → n ≤ 2 ^ 28
 size_small n h = leb-true n (2 ^ 28) (and_parts ((n % 8 == 0) && nat_le 64 n) (nat_le n (2 ^ 28)) h).1
 
 size_whole : (n : ℕ) → IsTrue (is_size n) → n % 8 ≡ 0
@@ -49,8 +43,6 @@ statics_are_bytes [] labels = λ i. omega arith
 statics_are_bytes (x ∷ statics) labels = below_append 256 (bytes_of labels x) (static_bytes statics labels) (bytes_of_long (long_of labels x)) (statics_are_bytes statics labels)
 
 module _ (a : Assembly) (placed : Placed) (heap stack : ℕ) (built : IsBuilt a placed heap stack) (safe : IsSafe (placed_run placed (sizes_of heap stack))) (ends : EndsLead) where
-
-
   entry : ℕ
   entry = placed.words.entry
 

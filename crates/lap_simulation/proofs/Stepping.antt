@@ -1,25 +1,24 @@
 -- Each step of the words is matched by the items of its line.
-use Rattle.std.specs.Prelude.{IsTrue, IsSomeAnd, All, Contains, option_map}
-use Rattle.std.specs.List.{AllByRecursion, flat_map}
+use Rattle.std.specs.Prelude.{IsSomeAnd, option_map}
+use Rattle.std.specs.List.{flat_map}
 use Rattle.std.specs.Option.{option_map_or}
-use Rattle.std.proofs.Common.{◌≡◌, ℕ, zero, suc, ◌+◌, ◌-◌, ◌*◌, ◌/◌, ◌≤◌, ◌<◌, Bool, true, false, List, [], ◌∷◌, ◌++◌, length, drop, Option, Some, None, slice_get, inl, inr, ◌⊎◌, ⊎_elim, refl, sym, ap, subst, ◌∙◌, arith, append_assoc, append-nil}
+use Rattle.std.proofs.Common.{◌≡◌, ℕ, zero, suc, ◌+◌, ◌-◌, ◌*◌, ◌/◌, ◌≤◌, List, [], ◌∷◌, ◌++◌, length, drop, Option, Some, None, slice_get, inl, inr, refl, sym, ap, subst, ◌∙◌, arith, append_assoc, append-nil}
 use Rattle.program_runs.specs.Runs.{End, Value, Faulted, Full, Broken}
 use Rattle.program_runs.specs.Keeps.{EndsWithin, IsSafe}
-use Rattle.program_runs.specs.Follows.{after, Machine, Alike, CostsBetween, Matched, Simulates, runs}
+use Rattle.program_runs.specs.Follows.{after, Machine, Alike, Matched, Simulates}
 use Rattle.program_runs.proofs.Simulate.{after_last}
 use Rattle.word_ir.specs.declared.placed.Placed.{Placed}
 use Rattle.word_ir.specs.declared.words.WordBlock.{WordBlock}
 use Rattle.word_ir.specs.declared.words.WordOp.{WordOp}
 use Rattle.word_ir.specs.Lines.{Line, Op, Last, line_in, line_at, lines_from, lines_of, moves_of, op_exits, exits_of}
-use Rattle.word_ir.specs.Storage.{Sizes, HEAP_START}
+use Rattle.word_ir.specs.Storage.{HEAP_START}
 use Rattle.word_ir.specs.declared.placed.Home.TheVariants as home
 use Rattle.word_ir.specs.Word.{Word, Number}
 use Rattle.word_ir.specs.State.{Setting, State as WordState, Keeper, Own, At, Env, hold, hold_all, start, seen}
 use Rattle.word_ir.specs.Effects.{Effect, Binds, Stores, Takes, SetsTop, Puts, Turns, Enters, Ends, op_effect, end_effect, line_effect}
-use Rattle.word_ir.specs.Step.{changed, into, moving, done, step, unless_ended, placed_in, placed_run}
+use Rattle.word_ir.specs.Step.{changed, moving, done, step, unless_ended, placed_in, placed_run}
 use Rattle.word_ir.specs.Ranges.{IsInPlace}
-use Rattle.word_ir.specs.Whole.{each_line, open_blocks}
-use Rattle.word_ir.specs.WholePlaced.{IsWholePlaced}
+use Rattle.word_ir.specs.Whole.{open_blocks}
 use Rattle.word_ir.proofs.Steady.{steps_add}
 use Rattle.word_ir.proofs.Places.{step_in_place}
 use Rattle.parallel_moves.specs.declared.OneMove.{OneMove}
@@ -27,7 +26,7 @@ use Rattle.m68020_step.specs.Step.{State}
 use Rattle.m68020_asm.specs.declared.item.Item.{Item}
 use Rattle.machine_services.specs.declared.exit.Exit.{Exit}
 use Rattle.machine_services.specs.Runs.{Progress}
-use Rattle.machine_services.specs.Observed.{end_of, heap_words}
+use Rattle.machine_services.specs.Observed.{end_of}
 use Rattle.item_runs.specs.Runs.{item_machine}
 use Rattle.lap_items.specs.Moves.{DoesAtOnce}
 use Rattle.lap_items.specs.Operations.{op_items}
@@ -35,14 +34,13 @@ use Rattle.lap_items.specs.Ends.{end_moves, end_items}
 use Rattle.lap_runs.specs.Represents.{Represents}
 use Rattle.lap_paths.specs.Paths.{Assembly, code, Stands, next_of}
 use Rattle.lap_paths.specs.Housed.{IsHoused}
-use Rattle.lap_lines.specs.Arrives.{Behind, Opened}
+use Rattle.lap_lines.specs.Arrives.{Behind}
 use Rattle.lap_services.specs.Tells.{Tells, EndsSo}
-use Rattle.lap_operations.specs.Comes.{Comes, EndsAlike}
+use Rattle.lap_operations.specs.Comes.{Comes}
 use Rattle.lap_operations.proofs.Lines.{operations_arrive}
-use Rattle.lap_whole.specs.Laws.{IsUsableLine}
 use Rattle.lap_whole.proofs.Lines.{lines_usable, operations_operable}
 use Rattle.lap_whole.proofs.Listed.{Listed, listed_flat, each_listed}
-use Rattle.lap_simulation.specs.Leads.{IsInBlock, Arrived, Leads}
+use Rattle.lap_simulation.specs.Leads.{Arrived, Leads}
 use Rattle.lap_simulation.specs.Laws.{IsBuilt, sizes_of, EndsLead}
 use Rattle.lap_simulation.proofs.Turning.{TurnsTo, op_turns}
 use Rattle.lap_simulation.proofs.Blocks.{at_start}
@@ -149,7 +147,7 @@ module _ (a : Assembly) (placed : Placed) (heap stack : ℕ) (built : IsBuilt a 
 
   -- the items have run for a step
   module _ (s : WordState) (q : Progress) (g : Going s q) (n moved : ℕ) (v : WordState) (bytes : List ℕ) (end : Option Exit) (Q : State → Type 0) (is : step m s ≡ moving moved v) (same : v.moves ≡ s.moves) (few : n ≤ 13 * moved)
-    (tells : Tells a n q.state bytes end Q) (heap_is : next_of tells.to ≡ v.next) where
+      (tells : Tells a n q.state bytes end Q) (heap_is : next_of tells.to ≡ v.next) where
     behind : Progress
     behind = record { state = tells.to; output = q.output ++ bytes; end = end; instructions = q.instructions + tells.count }
 
@@ -322,7 +320,7 @@ module _ (a : Assembly) (placed : Placed) (heap stack : ℕ) (built : IsBuilt a 
           let operable = operations_operable placed (sizes_of heap stack) s.block s.place o built.whole line in
           let rest = rest_items g.block (s.place + 1) g.last in
           let stands = subst (Stands a q.state) (ap (λ l. flat_map (op_items placed.at.items) l ++ end_items placed g.block.last g.last) (drop_at g.block.ops.items s.place o e)
-              ∙ append_assoc (op_items placed.at.items o) (flat_map (op_items placed.at.items) (drop (s.place + 1) g.block.ops.items)) (end_items placed g.block.last g.last)) g.stands in
+          ∙ append_assoc (op_items placed.at.items o) (flat_map (op_items placed.at.items) (drop (s.place + 1) g.block.ops.items)) (end_items placed g.block.last g.last)) g.stands in
           op_step s q g o e (op_effect m s o) (step_is s (Op o) g.going line) (op_turns m s o) (operations_arrive a m s q.state rest o built.names housed g.place g.is operable usable.shaped stands)
       by_line None e =
           let line = line_there s q g None e in

@@ -1,10 +1,8 @@
 -- An operation turns to no other blocks than those it names as its exits.
-use Rattle.std.proofs.Common.{◌≡◌, ℕ, ◌+◌, ◌*◌, ◌%◌, ◌==◌, nat_lt, Bool, true, false, List, [], ◌∷◌, Option, Some, None, slice_get, refl, ℤ}
+use Rattle.std.proofs.Common.{ℕ, ◌+◌, ◌*◌, ◌%◌, ◌==◌, nat_lt, Bool, true, false, List, [], ◌∷◌, Option, Some, None, refl}
 use Rattle.std.specs.Prelude.{if◌then◌else◌, is_some, ◌&&◌, nat_le}
 use Rattle.t_base.specs.declared.basics.Var.{Var}
-use Rattle.program_runs.specs.Runs.{Value, Faulted, Full, Broken}
 use Rattle.word_ir.specs.declared.operands.Operand.{Operand}
-use Rattle.word_ir.specs.declared.words.Arith.{Arith}
 use Rattle.word_ir.specs.declared.words.WordOp.{WordOp}
 use Rattle.word_ir.specs.declared.words.WordOp.TheVariants as op
 use Rattle.word_ir.specs.Lines.{op_exits}

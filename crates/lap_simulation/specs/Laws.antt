@@ -1,7 +1,8 @@
 -- What emitted items keep.
-use Rattle.std.specs.Prelude.{◌≡◌, ℕ, ◌*◌, true, IsTrue, List, length, slice_get, Some, None}
+use Rattle.std.specs.Prelude.{◌≡◌, ℕ, ◌*◌, IsTrue, List, length, slice_get, Some, None}
 use Rattle.program_runs.specs.Keeps.{KeepsAlike, IsSafe}
 use Rattle.program_runs.specs.Follows.{after}
+use Rattle.word_ir.specs.declared.placed.Home.TheVariants as home
 use Rattle.word_ir.specs.declared.placed.Placed.{Placed}
 use Rattle.word_ir.specs.declared.words.WordBlock.{WordBlock}
 use Rattle.word_ir.specs.Names.{image_names}
@@ -25,12 +26,13 @@ use Rattle.lap_runs.specs.Represents.{Represents}
 use Rattle.lap_paths.specs.Paths.{Assembly, Stands}
 use Rattle.lap_simulation.specs.Leads.{Leads}
 
--- a whole program with its items assembled to bytes, and sizes of heap and stack that a run may have
+-- A whole program with its items assembled to bytes, and sizes of heap and stack that a run may have. No variable has its home in the stack.
 pub record IsBuilt (a : Assembly) (placed : Placed) (heap stack : ℕ) : Type 0 where
   pub whole : IsWholePlaced placed
   pub emitted : IsEmitted placed a.items
   pub bytes : AreBytes a.bytes
   pub names : a.names ≡ image_names placed.words.shared.names
+  pub no_stack_homes : (k n : ℕ) → slice_get placed.at.items k ≡ Some (home.Stack n) → ⊥
   pub heap_is : IsTrue (is_size heap)
   pub stack_is : IsTrue (is_size stack)
 
