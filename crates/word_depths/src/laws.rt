@@ -1,9 +1,15 @@
 //! The law of the stack's depth, as contract of a function that does nothing.
 
-ghost use Rattle.word_depths.specs.Laws.{LinesKeepDepth};
+ghost use Rattle.word_depths.specs.Laws.{LinesKeepDepth, BlocksAreDeep};
 
 /// Where so many words are in the stack before a line, as many are in it behind the line as the account of homes says; and the line leads to no
 /// block but those that it names, and to the one whose code an Enter has.
 pub fn lines_keep_depth()
     ensures { LinesKeepDepth }
+{}
+
+/// At the start of a block for which the stack is deep enough, and from there on from line to line, the homes in the stack of the variables that
+/// live are among the words that are in it; and a block to which a line leads is one for which it is deep enough.
+pub fn blocks_are_deep()
+    ensures { BlocksAreDeep }
 {}
