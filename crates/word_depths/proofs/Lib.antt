@@ -1,3 +1,4 @@
 pub mod Services
 pub mod Depths
 pub mod Standing
+pub mod Rooms

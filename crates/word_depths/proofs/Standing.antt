@@ -29,7 +29,7 @@ from_op (p ∷ ops) end zero o e = let same : p ≡ o = cc in ap (λ (x : WordOp
 from_op (p ∷ ops) end (suc k) o e = from_op ops end k o e ∙ ap (λ (n : ℕ). Op o ∷ lines_from (drop n (p ∷ ops)) end) (let h : suc (k + 1) ≡ suc k + 1 = omega arith in h)
 
 -- the lines from a place on begin with its line
-from_line : (ops : List WordOp) (end : WordEnd) (k : ℕ) → (rest : List Line) × (lines_from (drop k ops) end ≡ option_map_or Op (slice_get ops k) (Last end) ∷ rest)
+pub from_line : (ops : List WordOp) (end : WordEnd) (k : ℕ) → (rest : List Line) × (lines_from (drop k ops) end ≡ option_map_or Op (slice_get ops k) (Last end) ∷ rest)
 from_line [] end zero = ([], refl)
 from_line [] end (suc k) = ([], refl)
 from_line (p ∷ ops) end zero = (lines_from ops end, refl)

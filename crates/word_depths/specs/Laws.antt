@@ -1,17 +1,19 @@
 -- The words that are in the stack for certain.
-use Rattle.std.specs.Prelude.{◌≡◌, ℕ, ◌+◌, ◌*◌, ◌≤◌, ◌⊎◌, List, ◌++◌, Some, Contains, drop, slice_get, slice_index}
+use Rattle.std.specs.Prelude.{true, ◌≡◌, ℕ, ◌+◌, ◌*◌, ◌≤◌, ◌⊎◌, List, ◌++◌, Some, Contains, drop, slice_get, slice_index}
 use Rattle.word_ir.specs.declared.operands.Operand.{Operand}
 use Rattle.word_ir.specs.declared.words.WordEnd.TheVariants as last
+use Rattle.t_base.specs.declared.basics.Var.{Var}
+use Rattle.word_ir.specs.declared.placed.Home.TheVariants as home
 use Rattle.word_ir.specs.Word.{Code}
 use Rattle.word_ir.specs.declared.placed.Placed.{Placed}
 use Rattle.word_ir.specs.declared.words.WordBlock.{WordBlock}
 use Rattle.word_ir.specs.declared.words.WordOp.{WordOp}
 use Rattle.word_ir.specs.Storage.{Sizes}
 use Rattle.word_ir.specs.Step.{placed_in}
-use Rattle.word_ir.specs.Lines.{Line, Op, Last, exits_of, line_in, lines_from}
+use Rattle.word_ir.specs.Lines.{Line, Op, Last, exits_of, line_in, lines_from, uses_of}
 use Rattle.word_ir.specs.Whole.{jumps_of}
 use Rattle.word_ir.specs.WholePlaced.{depth_behind, needed, LieWithin, IsLodgedFrom, IsWholePlaced}
-use Rattle.word_ir.specs.State.{Setting, State, stack_end}
+use Rattle.word_ir.specs.State.{Setting, State, stack_end, At, keeper_of, has_room}
 use Rattle.word_ir.specs.Effects.{Effect, Binds, Stores, Takes, SetsTop, Puts, Turns, Enters, Ends, word_of, line_effect}
 use Rattle.word_ir.specs.Ranges.{IsInPlace}
 
@@ -60,3 +62,9 @@ pub record BlocksAreDeep : Type 0 where
       → IsDeep (placed_in placed sizes) next (depth_behind d.depth (Op o)) → StandsDeep placed sizes whole b (place + 1) next
   pub leads : (placed : Placed) (sizes : Sizes) (whole : IsWholePlaced placed) (b place top c : ℕ) (line : Line) (target : WordBlock) (d : StandsDeep placed sizes whole b place top) → line_in d.is place ≡ line
       → Contains (exits_of line ++ jumps_of line) c → slice_get placed.words.blocks.items c ≡ Some target → StandsDeep placed sizes whole c 0 top
+
+-- So a home in the stack that a line uses is inside of the stack.
+abbrev pub UsedHomesHaveRoom : Type 0
+UsedHomesHaveRoom =
+    (placed : Placed) (sizes : Sizes) (whole : IsWholePlaced placed) (s : State) (d : StandsDeep placed sizes whole s.block s.place s.top) (v : Var) (n : ℕ) → IsInPlace (placed_in placed sizes) s → Contains (uses_of (line_in d.is s.place)) v
+    → keeper_of placed.at.items v ≡ At (home.Stack n) → has_room s (At (home.Stack n)) ≡ true
