@@ -11,7 +11,7 @@ use Rattle.word_ir.specs.declared.words.WordOp.{WordOp}
 use Rattle.word_ir.specs.Storage.{Sizes}
 use Rattle.word_ir.specs.Step.{placed_in}
 use Rattle.word_ir.specs.Lines.{Line, Op, Last, exits_of, line_in, lines_from, uses_of}
-use Rattle.word_ir.specs.Whole.{jumps_of}
+use Rattle.word_ir.specs.Whole.{jumps_of, taken_blocks}
 use Rattle.word_ir.specs.WholePlaced.{depth_behind, needed, LieWithin, IsLodgedFrom, IsWholePlaced}
 use Rattle.word_ir.specs.State.{Setting, State, stack_end, At, keeper_of, has_room}
 use Rattle.word_ir.specs.Effects.{Effect, Binds, Stores, Takes, SetsTop, Puts, Turns, Enters, Ends, word_of, line_effect}
@@ -68,3 +68,9 @@ abbrev pub UsedHomesHaveRoom : Type 0
 UsedHomesHaveRoom =
     (placed : Placed) (sizes : Sizes) (whole : IsWholePlaced placed) (s : State) (d : StandsDeep placed sizes whole s.block s.place s.top) (v : Var) (n : ℕ) → IsInPlace (placed_in placed sizes) s → Contains (uses_of (line_in d.is s.place)) v
     → keeper_of placed.at.items v ≡ At (home.Stack n) → has_room s (At (home.Stack n)) ≡ true
+
+-- At the start, and where a block whose code is taken is entered, no word is counted on.
+pub record StartsAreDeep : Type 0 where
+  pub entry : (placed : Placed) (sizes : Sizes) (whole : IsWholePlaced placed) → StandsDeep placed sizes whole placed.words.entry 0 (stack_end (placed_in placed sizes))
+  pub taken : (placed : Placed) (sizes : Sizes) (whole : IsWholePlaced placed) (b top : ℕ) (block : WordBlock) → Contains (taken_blocks placed.words) b → slice_get placed.words.blocks.items b ≡ Some block → top ≤ stack_end (placed_in placed sizes)
+      → StandsDeep placed sizes whole b 0 top
