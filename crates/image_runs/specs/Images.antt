@@ -1,5 +1,5 @@
 -- The image that is made of items: their code, some static words as bytes, the entry's label, some names.
-use Rattle.std.specs.Prelude.{◌≡◌, ℕ, List, slice_index}
+use Rattle.std.specs.Prelude.{ℕ, List, slice_index}
 use Rattle.program_runs.specs.Runs.{Run}
 use Rattle.word_ir.specs.declared.words.Words.{Words}
 use Rattle.word_ir.specs.Names.{image_names}

@@ -1,5 +1,5 @@
 -- The passes composed, one after the other.
-use Rattle.std.proofs.Common.{◌≡◌, ℕ, ◌+◌, ◌*◌, ◌%◌, ◌≤◌, ◌&&◌, Bool, true, false, ◌==◌, refl, ap, sym, subst, ◌∙◌, arith}
+use Rattle.std.proofs.Common.{◌≡◌, ℕ, ◌+◌, ◌*◌, ◌%◌, ◌≤◌, ◌&&◌, Bool, true, false, ◌==◌, refl, ap, subst, ◌∙◌, arith}
 use Rattle.std.specs.Prelude.{nat_le}
 use Rattle.std.proofs.lemmas.Bool.{eqb-true}
 use Rattle.program_runs.specs.Runs.{Run}
@@ -9,18 +9,16 @@ use Rattle.program_runs.proofs.Weaken.{within_with_more, keeps_is_safe, within_i
 use Rattle.t_base.specs.declared.shared_parts.Shared.{Shared}
 use Rattle.t_core.specs.declared.forms.UnitCore.{UnitCore}
 use Rattle.t_meaning.specs.Units.{meaning_at_most}
-use Rattle.cps_ir.specs.declared.terms.Cps.{Cps}
 use Rattle.cps_ir.specs.Running.{run_at_most}
-use Rattle.cps_ir.specs.Running.{run as cps_run}
 use Rattle.cps_conversion.specs.Law.{ConversionKeepsMost}
 use Rattle.frame_ir.specs.Running.{run}
-use Rattle.layout_relation.specs.Laws.{moves_for, LaidOutKeeps}
+use Rattle.layout_relation.specs.Laws.{LaidOutKeeps}
 use Rattle.word_ir.specs.Ranges.{HasWords}
 use Rattle.word_ir.specs.Step.{words_run, placed_run}
 use Rattle.m68020_step.specs.declared.machine.Sizes.{Sizes}
 use Rattle.m68020_step.specs.Boot.{is_size}
 use Rattle.image_runs.specs.Images.{items_run}
-use Rattle.passes_keep.specs.Chains.{AreSizes, word_sizes, room_at, Chain, factor_at}
+use Rattle.passes_keep.specs.Chains.{AreSizes, word_sizes, room_at, Chain}
 use Rattle.passes_keep.specs.Laws.{ItemsKeepMeaning}
 
 -- ---- sizes

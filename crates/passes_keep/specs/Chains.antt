@@ -3,7 +3,6 @@ use Rattle.std.specs.Prelude.{◌≡◌, ℕ, ◌+◌, ◌*◌, true}
 use Rattle.program_runs.specs.Keeps.{KeepsAlike, KeepsWithin, IsSafe, Room}
 use Rattle.t_core.specs.declared.forms.UnitCore.{UnitCore}
 use Rattle.cps_ir.specs.declared.terms.Cps.{Cps}
-use Rattle.cps_ir.specs.Whole.{IsWhole}
 use Rattle.cps_conversion.specs.Conversion.{Converts}
 use Rattle.assign_convert.specs.CellLaws.{IsCellForm}
 use Rattle.frame_ir.specs.declared.forms.Frames.{Frames}
