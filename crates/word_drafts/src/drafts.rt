@@ -23,7 +23,7 @@ pub struct Draft {
     pub ops: Vec<WordOp>,
 }
 
-fn empty_block(alloc: Global) -> WordBlock {
+pub(crate) fn empty_block(alloc: Global) -> WordBlock {
     WordBlock {
         params: Vars::from_vec(Vec::new(alloc)),
         ops: Vec::new(alloc),
