@@ -1,5 +1,5 @@
 -- What is written one behind the other.
-use Rattle.std.proofs.Common.{◌≡◌, ℕ, suc, ◌+◌, ◌<◌, List, [], ◌∷◌, ◌++◌, length, take, map, append_assoc, get_or, refl, sym, ap, ◌∙◌, subst, arith}
+use Rattle.std.proofs.Common.{◌≡◌, ℕ, suc, ◌+◌, ◌<◌, List, [], ◌∷◌, ◌++◌, length, take, get_or, refl, sym, ap, ◌∙◌, subst, arith}
 use Rattle.std.proofs.lemmas.List.{take_more, length-take-le}
 use Rattle.word_ir.specs.declared.words.Words.{Words}
 use Rattle.word_trees.specs.Trees.{Tree}
@@ -41,15 +41,3 @@ module _ {X : Type 0} (f : ℕ → X → Tree → Tree) (run : ℕ → List X �
       length_take ys n less = length-take-le n ys (omega (arith, less))
       take_one : (ys : List X) (n : ℕ) (y : X) → y ≡ get_or ys n y → n < length ys → take (n + 1) ys ≡ take n ys ++ y ∷ []
       take_one ys n y at less = take_more ys n y less ∙ ap (λ z. take n ys ++ z ∷ []) (sym at)
-
--- ---- what is made of each element
-
-map_append : {X Y : Type 0} (f : X → Y) (xs ys : List X) → map f (xs ++ ys) ≡ map f xs ++ map f ys
-map_append f [] ys = refl
-map_append f (x ∷ xs) ys = ap (λ zs. f x ∷ zs) (map_append f xs ys)
-
-pub map_step : {X Y : Type 0} (f : X → Y) (start now next : List Y) (xs : List X) (i : ℕ) (x : X) → x ≡ get_or xs i x → i < length xs
-    → now ≡ start ++ map f (take i xs) → next ≡ now ++ f x ∷ [] → next ≡ start ++ map f (take (i + 1) xs)
-map_step f start now next xs i x is lt p q =
-    q ∙ (ap (λ t. t ++ f x ∷ []) p ∙ (append_assoc start (map f (take i xs)) (f x ∷ [])
-    ∙ ap (λ t. start ++ t) (sym (ap (map f) (take_more xs i x lt ∙ ap (λ z. take i xs ++ z ∷ []) (sym is)) ∙ map_append f (take i xs) (x ∷ [])))))

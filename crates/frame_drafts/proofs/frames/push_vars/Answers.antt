@@ -1,6 +1,6 @@
 use Rattle.std.proofs.Common.{rules, ◌<◌, length, arith}
 use Rattle.word_ir.specs.declared.operands.Operand.TheVariants as operand
-use Rattle.frame_drafts.proofs.Spreading.{map_step}
+use Rattle.operand_drafts.proofs.Mapping.{map_step}
 use Rattle.frame_drafts.proofs.frames.push_vars.Goals as goal
 
 pub loop-v-preserved : goal.loop-v-preserved
