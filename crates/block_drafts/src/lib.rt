@@ -1,0 +1,8 @@
+//! The code of the blocks of a program with frames, written.
+#![tactic(auto)]
+
+mod closings;
+mod operations;
+
+pub use crate::closings::end;
+pub use crate::operations::plain;
