@@ -1,14 +1,13 @@
 -- What is chosen, as the tables have it.
-use Rattle.std.specs.Prelude.{◌≡◌, ℕ, suc, ◌+◌, List, [], ◌∷◌, length, Option, Some, None}
+use Rattle.std.specs.Prelude.{◌≡◌, ℕ, List, slice_get, Some}
 use Rattle.t_base.specs.declared.shared_parts.Shared.{Shared}
 use Rattle.cps_ir.specs.declared.args.Arg.TheVariants as Argument
 use Rattle.frame_ir.specs.declared.forms.FrameOp.{FrameOp}
-use Rattle.frame_ir.specs.declared.forms.FrameOp.TheVariants as Op
+use Rattle.frame_ir.specs.declared.forms.Block.{Block}
 use Rattle.frame_ir.specs.declared.forms.FrameEnd.{FrameEnd}
-use Rattle.frame_ir.specs.Groups.{makings}
-use Rattle.frame_ir.specs.Operations.{slots_behind}
+use Rattle.word_ir.specs.declared.words.WordBlock.{WordBlock}
 use Rattle.word_ir.specs.declared.words.Words.{Words}
-use Rattle.word_trees.specs.Trees.{Tree}
+use Rattle.word_trees.specs.Trees.{Tree, Spells}
 use Rattle.word_drafts.specs.declared.drafts.Draft.{Draft}
 use Rattle.word_drafts.specs.Drafts.{IsProper, Extends, SpellsNext}
 use Rattle.word_selection.specs.Codes.{Choice, IsCode, call_target}
@@ -30,9 +29,8 @@ pub record Rests (h : Choice) (shared : Shared) (end : FrameEnd) (all ops : List
   pub codes : (words : Words) (rest : Tree) → Extends words new → IsCode h shared ops end rest → SpellsNext words new rest
       → (tree : Tree) × IsCode h shared all end tree × SpellsNext words old tree
 
--- ---- slots
-
--- where a frame is popped, the count of its slots; else how many frames stand on it, and the count so far
-abbrev pub slots_from : Option (ℕ × ℕ) → ℕ → List FrameOp → ℕ
-slots_from None n ops = n
-slots_from (Some next) n ops = slots_behind next.0 ops next.1
+-- A block is written as one of the first blocks, with its parameters and its code.
+pub record WritesBlock (h : Choice) (shared : Shared) (number : ℕ) (b : Block) (old new : Draft) : Type 0 where
+  pub extends : (words : Words) → Extends words new → Extends words old
+  pub head : (words : Words) (block : WordBlock) → Extends words new → slice_get words.blocks.items number ≡ Some block → block.params ≡ b.params
+  pub code : (words : Words) → Extends words new → (tree : Tree) × IsCode h shared b.ops.items b.last tree × Spells words number 0 tree

@@ -32,7 +32,8 @@ fn target(places: &Places, f: Arg) -> u32
 
 fn end_call(draft: &mut Draft, alloc: Global, places: &Places, f: Arg, args: &[Arg]) -> Result<(), Memory>
     requires { IsProper draft.old }
-    ensures { (h : Choice) (shared : Shared) → IsChoice h shared places.now → OnOk result (Closes (end_code h shared places.now.free (Last.Call f args.now)) draft.old draft.new) }
+    ensures proper { OnOk result (IsProper draft.new) }
+    ensures code { (h : Choice) (shared : Shared) → IsChoice h shared places.now → OnOk result (Closes (end_code h shared places.now.free (Last.Call f args.now)) draft.old draft.new) }
 {
     let xs = operands(alloc, places, args)?;
     call(draft, alloc, target(places, f), operand(places, f), xs.as_slice())?;
@@ -41,7 +42,8 @@ fn end_call(draft: &mut Draft, alloc: Global, places: &Places, f: Arg, args: &[A
 
 fn end_jump(draft: &mut Draft, alloc: Global, places: &Places, block: u32, args: &[Arg]) -> Result<(), Memory>
     requires { IsProper draft.old }
-    ensures { (h : Choice) (shared : Shared) → IsChoice h shared places.now → OnOk result (Closes (end_code h shared places.now.free (Last.Jump block args.now)) draft.old draft.new) }
+    ensures proper { OnOk result (IsProper draft.new) }
+    ensures code { (h : Choice) (shared : Shared) → IsChoice h shared places.now → OnOk result (Closes (end_code h shared places.now.free (Last.Jump block args.now)) draft.old draft.new) }
 {
     let xs = Operands::from_vec(operands(alloc, places, args)?);
     jump(draft, alloc, block, xs)?;
@@ -50,7 +52,8 @@ fn end_jump(draft: &mut Draft, alloc: Global, places: &Places, block: u32, args:
 
 fn end_if(draft: &mut Draft, alloc: Global, places: &Places, x: Arg, first: u32, second: u32) -> Result<(), Memory>
     requires { IsProper draft.old }
-    ensures { (h : Choice) (shared : Shared) → IsChoice h shared places.now → OnOk result (Closes (end_code h shared places.now.free (Last.If x first second)) draft.old draft.new) }
+    ensures proper { OnOk result (IsProper draft.new) }
+    ensures code { (h : Choice) (shared : Shared) → IsChoice h shared places.now → OnOk result (Closes (end_code h shared places.now.free (Last.If x first second)) draft.old draft.new) }
 {
     test(draft, alloc, operand(places, x), first, second)?;
     Ok(())
@@ -58,7 +61,8 @@ fn end_if(draft: &mut Draft, alloc: Global, places: &Places, x: Arg, first: u32,
 
 fn end_return(draft: &mut Draft, alloc: Global, places: &Places, x: Arg) -> Result<(), Memory>
     requires { IsProper draft.old }
-    ensures { (h : Choice) (shared : Shared) → IsChoice h shared places.now → OnOk result (Closes (end_code h shared places.now.free (Last.Return x)) draft.old draft.new) }
+    ensures proper { OnOk result (IsProper draft.new) }
+    ensures code { (h : Choice) (shared : Shared) → IsChoice h shared places.now → OnOk result (Closes (end_code h shared places.now.free (Last.Return x)) draft.old draft.new) }
 {
     give_back(draft, alloc, places.free, operand(places, x))?;
     Ok(())
@@ -66,7 +70,8 @@ fn end_return(draft: &mut Draft, alloc: Global, places: &Places, x: Arg) -> Resu
 
 fn end_halt(draft: &mut Draft, alloc: Global, places: &Places, x: Arg) -> Result<(), Memory>
     requires { IsProper draft.old }
-    ensures { (h : Choice) (shared : Shared) → IsChoice h shared places.now → OnOk result (Closes (end_code h shared places.now.free (Last.Halt x)) draft.old draft.new) }
+    ensures proper { OnOk result (IsProper draft.new) }
+    ensures code { (h : Choice) (shared : Shared) → IsChoice h shared places.now → OnOk result (Closes (end_code h shared places.now.free (Last.Halt x)) draft.old draft.new) }
 {
     halt(draft, alloc, operand(places, x))?;
     Ok(())
@@ -75,7 +80,8 @@ fn end_halt(draft: &mut Draft, alloc: Global, places: &Places, x: Arg) -> Result
 /// Writes the end of a block. The only error is the want of memory.
 pub fn end(draft: &mut Draft, alloc: Global, places: &Places, last: &FrameEnd) -> Result<(), Memory>
     requires { IsProper draft.old }
-    ensures { (h : Choice) (shared : Shared) → IsChoice h shared places.now → OnOk result (Closes (end_code h shared places.now.free last.now) draft.old draft.new) }
+    ensures proper { OnOk result (IsProper draft.new) }
+    ensures code { (h : Choice) (shared : Shared) → IsChoice h shared places.now → OnOk result (Closes (end_code h shared places.now.free last.now) draft.old draft.new) }
 {
     match last {
         FrameEnd::Call { f, args } => end_call(draft, alloc, places, *f, args.as_slice()),

@@ -1,9 +1,10 @@
 //! The operations of blocks.
 
-ghost use Rattle.std.specs.Prelude.{◌≤◌, ◌≡◌, OnOk, map, List};
+ghost use Rattle.std.specs.Prelude.{◌≤◌, ◌≡◌, [], ◌∷◌, OnOk, List};
 ghost use Rattle.t_base.specs.declared.shared_parts.Shared.{Shared};
 ghost use Rattle.frame_ir.specs.declared.forms.FrameOp.{FrameOp};
 ghost use Rattle.frame_ir.specs.declared.forms.FrameOp.TheVariants as Op;
+ghost use Rattle.frame_ir.specs.Groups.{makings};
 ghost use Rattle.word_selection.specs.Codes.{Choice, op_code};
 ghost use Rattle.word_drafts.specs.Drafts.{IsProper, Writes};
 ghost use Rattle.block_drafts.specs.Fitting.{IsChoice};
@@ -20,7 +21,8 @@ use word_drafts::Draft;
 fn builtin(draft: &mut Draft, alloc: Global, places: &Places, to: Var, p: Prim, args: &[Arg]) -> Result<(), Memory>
     requires proper { IsProper draft.old }
     requires few { places.now.free ≤ 4294967200 }
-    ensures { (h : Choice) (shared : Shared) (ops : List FrameOp) → IsChoice h shared places.now → OnOk result (Writes (op_code h shared places.now.free (Op.Prim to p args.now) ops) draft.old draft.new) }
+    ensures proper { OnOk result (IsProper draft.new) }
+    ensures code { (h : Choice) (shared : Shared) (ops : List FrameOp) → IsChoice h shared places.now → OnOk result (Writes (op_code h shared places.now.free (Op.Prim to p args.now) ops) draft.old draft.new) }
 {
     let xs = operands(alloc, places, args)?;
     prim(draft, alloc, p, xs.as_slice(), places.free, to)?;
@@ -28,7 +30,9 @@ fn builtin(draft: &mut Draft, alloc: Global, places: &Places, to: Var, p: Prim, 
 }
 
 fn set_cell(draft: &mut Draft, places: &Places, cell: Var, x: Arg) -> Result<(), Memory>
-    ensures { (h : Choice) (shared : Shared) (ops : List FrameOp) → IsChoice h shared places.now → OnOk result (Writes (op_code h shared places.now.free (Op.CellSet cell x) ops) draft.old draft.new) }
+    requires { IsProper draft.old }
+    ensures proper { OnOk result (IsProper draft.new) }
+    ensures code { (h : Choice) (shared : Shared) (ops : List FrameOp) → IsChoice h shared places.now → OnOk result (Writes (op_code h shared places.now.free (Op.CellSet cell x) ops) draft.old draft.new) }
 {
     cell_set(draft, cell, operand(places, x))?;
     Ok(())
@@ -36,7 +40,8 @@ fn set_cell(draft: &mut Draft, places: &Places, cell: Var, x: Arg) -> Result<(),
 
 fn put_global(draft: &mut Draft, alloc: Global, places: &Places, global: u32, x: Arg, first: bool) -> Result<(), Memory>
     requires { IsProper draft.old }
-    ensures { (h : Choice) (shared : Shared) (ops : List FrameOp) → IsChoice h shared places.now → OnOk result (Writes (op_code h shared places.now.free (Op.GlobalPut global x first) ops) draft.old draft.new) }
+    ensures proper { OnOk result (IsProper draft.new) }
+    ensures code { (h : Choice) (shared : Shared) (ops : List FrameOp) → IsChoice h shared places.now → OnOk result (Writes (op_code h shared places.now.free (Op.GlobalPut global x first) ops) draft.old draft.new) }
 {
     if first {
         return global_set(draft, global, operand(places, x));
@@ -48,7 +53,9 @@ fn put_global(draft: &mut Draft, alloc: Global, places: &Places, global: u32, x:
 pub fn plain(draft: &mut Draft, alloc: Global, places: &Places, op: &FrameOp) -> Result<(), Memory>
     requires proper { IsProper draft.old }
     requires few { places.now.free ≤ 4294967200 }
-    ensures { (h : Choice) (shared : Shared) (ops : List FrameOp) → IsChoice h shared places.now → OnOk result (Writes (op_code h shared places.now.free op.now ops) draft.old draft.new) }
+    ensures single { OnOk result ((ops : List FrameOp) → makings (op.now ∷ ops) ≡ []) }
+    ensures proper { OnOk result (IsProper draft.new) }
+    ensures code { (h : Choice) (shared : Shared) (ops : List FrameOp) → IsChoice h shared places.now → OnOk result (Writes (op_code h shared places.now.free op.now ops) draft.old draft.new) }
 {
     match op {
         FrameOp::Prim { to, p, args } => builtin(draft, alloc, places, *to, *p, args.as_slice()),
