@@ -1,5 +1,5 @@
 -- Operations are written one behind the other, and a block from its parameters to its end.
-use Rattle.std.proofs.Common.{◌≡◌, ℕ, zero, suc, ◌+◌, ◌<◌, ◌≤◌, List, [], ◌∷◌, length, drop, get_or, refl, sym, ap, ◌∙◌, subst, arith, slice_get, Some}
+use Rattle.std.proofs.Common.{◌≡◌, ℕ, zero, suc, ◌⊎◌, inl, inr, ◌+◌, ◌<◌, ◌≤◌, List, [], ◌∷◌, length, drop, get_or, refl, sym, ap, ◌∙◌, subst, arith, slice_get, Some, None}
 use Rattle.t_base.specs.declared.basics.Var.{Var}
 use Rattle.t_base.specs.declared.shared_parts.Shared.{Shared}
 use Rattle.frame_ir.specs.declared.forms.FrameOp.{FrameOp}
@@ -11,7 +11,7 @@ use Rattle.word_trees.specs.Trees.{Tree, Spells}
 use Rattle.word_drafts.specs.declared.drafts.Draft.{Draft}
 use Rattle.word_drafts.specs.Drafts.{Extends, SpellsNext, Writes, Closes, Begins}
 use Rattle.word_selection.specs.Codes.{Choice, IsCode, does, ends, op_code, end_code}
-use Rattle.block_drafts.specs.Fitting.{Rests, WritesBlock}
+use Rattle.block_drafts.specs.Fitting.{Rests, WritesBlock, Stands, WritesBlocks}
 
 pub rests_none : (h : Choice) (shared : Shared) (last : FrameEnd) (ops : List FrameOp) (a : Draft) → Rests h shared last ops ops a a
 rests_none h shared last ops a = record { proper = λ p. p; extends = λ words x. x; codes = λ words rest x code s. (rest, code, s) }
@@ -49,3 +49,41 @@ nothing_left [] zero le = refl
 nothing_left [] (suc i) le = refl
 nothing_left (x ∷ xs) zero le = absurd (omega (arith, le))
 nothing_left (x ∷ xs) (suc i) le = nothing_left xs i (omega (arith, le))
+
+-- ---- all blocks
+
+less_or_same : (k i : ℕ) → k < i + 1 → (k < i) ⊎ (k ≡ i)
+less_or_same zero zero lt = inr refl
+less_or_same zero (suc i) lt = inl (omega arith)
+less_or_same (suc k) zero lt = absurd (omega (arith, lt))
+less_or_same (suc k) (suc i) lt = next (less_or_same k i (omega (arith, lt)))
+  where
+    next : (k < i) ⊎ (k ≡ i) → (suc k < suc i) ⊎ (suc k ≡ suc i)
+    next (inl less) = inl (omega (arith, less))
+    next (inr same) = inr (ap suc same)
+
+none_is : {X Z : Type 0} (v : X) → None ≡ Some v → Z
+none_is v h = cc
+
+got : {X : Type 0} (xs : List X) (n : ℕ) (x y : X) → x ≡ get_or xs n x → slice_get xs n ≡ Some y → x ≡ y
+got [] n x y is at = none_is y at
+got (z ∷ xs) zero x y is at = is ∙ cc
+got (z ∷ xs) (suc n) x y is at = got xs n x y is at
+
+pub blocks_none : (h : Choice) (shared : Shared) (blocks : List Block) (a : Draft) → WritesBlocks h shared 0 blocks a a
+blocks_none h shared blocks a = record { extends = λ words x. x; stand = λ words x k b lt at. absurd (omega (arith, lt)) }
+
+pub blocks_more : (h : Choice) (shared : Shared) (blocks : List Block) (i number : ℕ) (b : Block) (d e f : Draft) → number ≡ i → b ≡ get_or blocks i b → WritesBlocks h shared i blocks d e → WritesBlock h shared number b e f
+    → WritesBlocks h shared (i + 1) blocks d f
+blocks_more h shared blocks i number b d e f same is front last = record {
+  extends = λ words x. front.extends words (last.extends words x);
+  stand = λ words x k c lt at. by_place words x k c at (less_or_same k i lt);
+}
+  where
+    this : (words : Words) → Extends words f → Stands h shared words number b
+    this words x = let found : (tree : Tree) × IsCode h shared b.ops.items b.last tree × Spells words number 0 tree = last.code words x in
+        record { head = λ block at. last.head words block x at; tree = found.0; code = found.1; spelled = found.2 }
+    by_place : (words : Words) → Extends words f → (k : ℕ) (c : Block) → slice_get blocks k ≡ Some c → (k < i) ⊎ (k ≡ i) → Stands h shared words k c
+    by_place words x k c at (inl less) = front.stand words (last.extends words x) k c less at
+    by_place words x k c at (inr eq) =
+        subst (λ n. Stands h shared words n c) (same ∙ sym eq) (subst (Stands h shared words number) (got blocks i b c is (ap (slice_get blocks) (sym eq) ∙ at)) (this words x))

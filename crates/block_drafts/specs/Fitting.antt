@@ -1,5 +1,5 @@
 -- What is chosen, as the tables have it.
-use Rattle.std.specs.Prelude.{◌≡◌, ℕ, List, slice_get, Some}
+use Rattle.std.specs.Prelude.{◌≡◌, ℕ, ◌<◌, List, slice_get, Some}
 use Rattle.t_base.specs.declared.shared_parts.Shared.{Shared}
 use Rattle.cps_ir.specs.declared.args.Arg.TheVariants as Argument
 use Rattle.frame_ir.specs.declared.forms.FrameOp.{FrameOp}
@@ -34,3 +34,15 @@ pub record WritesBlock (h : Choice) (shared : Shared) (number : ℕ) (b : Block)
   pub extends : (words : Words) → Extends words new → Extends words old
   pub head : (words : Words) (block : WordBlock) → Extends words new → slice_get words.blocks.items number ≡ Some block → block.params ≡ b.params
   pub code : (words : Words) → Extends words new → (tree : Tree) × IsCode h shared b.ops.items b.last tree × Spells words number 0 tree
+
+-- what a program has of such a block
+pub record Stands (h : Choice) (shared : Shared) (words : Words) (number : ℕ) (b : Block) : Type 0 where
+  pub head : (block : WordBlock) → slice_get words.blocks.items number ≡ Some block → block.params ≡ b.params
+  pub tree : Tree
+  pub code : IsCode h shared b.ops.items b.last tree
+  pub spelled : Spells words number 0 tree
+
+-- The first so many blocks are written.
+pub record WritesBlocks (h : Choice) (shared : Shared) (count : ℕ) (blocks : List Block) (old new : Draft) : Type 0 where
+  pub extends : (words : Words) → Extends words new → Extends words old
+  pub stand : (words : Words) → Extends words new → (k : ℕ) (b : Block) → k < count → slice_get blocks k ≡ Some b → Stands h shared words k b

@@ -1,6 +1,6 @@
 use Rattle.std.proofs.Common.{rules, ◌≡◌, ◌≤◌, arith}
 use Rattle.block_drafts.proofs.Writing.{writes_block}
-use Rattle.block_drafts.proofs.blocks.block.Goals as goal
+use Rattle.block_drafts.proofs.written.block.Goals as goal
 
 pub returns-clause-code : goal.returns-clause-code
 returns-clause-code c h shared w =

@@ -1,11 +1,11 @@
 //! Blocks, from their parameters to their ends.
 
-ghost use Rattle.std.specs.Prelude.{◌≤◌, [], OnOk};
+ghost use Rattle.std.specs.Prelude.{◌≤◌, [], length, OnOk};
 ghost use Rattle.t_base.specs.declared.shared_parts.Shared.{Shared};
 ghost use Rattle.frame_ir.specs.declared.forms.FrameEnd.{FrameEnd};
 ghost use Rattle.word_selection.specs.Codes.{Choice};
 ghost use Rattle.word_drafts.specs.Drafts.{IsProper};
-ghost use Rattle.block_drafts.specs.Fitting.{IsChoice, Rests, WritesBlock};
+ghost use Rattle.block_drafts.specs.Fitting.{IsChoice, Rests, WritesBlock, WritesBlocks};
 
 use crate::closings::end;
 use crate::operations::plain;
@@ -52,5 +52,28 @@ pub fn block(
     }
     operations(draft, alloc, places, b.ops.as_slice())?;
     end(draft, alloc, places, &b.last)?;
+    Ok(())
+}
+
+/// Writes all blocks, each with its number. The only error is the want of memory.
+pub fn blocks(
+    draft: &mut Draft,
+    alloc: Global,
+    places: &Places,
+    blocks: &[Block],
+) -> Result<(), Memory>
+    requires proper { IsProper draft.old }
+    requires few { places.now.free ≤ 4294967200 }
+    ensures proper { OnOk result (IsProper draft.new) }
+    ensures code { (h : Choice) (shared : Shared) → IsChoice h shared places.now → OnOk result (WritesBlocks h shared (length blocks.now) blocks.now draft.old draft.new) }
+{
+    let mut number = 0u32;
+    for b in blocks {
+        block(draft, alloc, places, number, b)?;
+        let Some(next) = number.checked_add(1) else {
+            return Err(Memory);
+        };
+        number = next;
+    }
     Ok(())
 }

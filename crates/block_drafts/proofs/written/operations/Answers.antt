@@ -1,7 +1,7 @@
 use Rattle.std.proofs.Common.{◌≡◌, ◌+◌, ◌<◌, ◌≤◌, ◌∷◌, length, drop, subst, arith}
 use Rattle.block_drafts.specs.Fitting.{Rests}
 use Rattle.block_drafts.proofs.Writing.{rests_more, drop_one, nothing_left}
-use Rattle.block_drafts.proofs.blocks.operations.Goals as goal
+use Rattle.block_drafts.proofs.written.operations.Goals as goal
 
 pub loop-op-preserved : goal.loop-op-preserved
 loop-op-preserved c =
