@@ -33,7 +33,7 @@ writes_block h shared b number place params ops t d e f g le is ps os begins res
   code = λ words x.
       let at_f : Extends words f = closes.extends words x in
       let found : (tree : Tree) × IsCode h shared ops b.last tree × SpellsNext words e tree =
-          rests.codes words (end_code h shared t b.last) at_f (ends t b.last (end_code h shared t b.last) le refl) (closes.spelled words x) in
+      rests.codes words (end_code h shared t b.last) at_f (ends t b.last (end_code h shared t b.last) le refl) (closes.spelled words x) in
       (found.0, subst (λ xs. IsCode h shared xs b.last found.0) os found.1, subst (λ n. Spells words n 0 found.0) is (begins.spelled words found.0 found.2));
 }
 
@@ -83,6 +83,7 @@ blocks_more h shared blocks i number b d e f same is front last = record {
     this : (words : Words) → Extends words f → Stands h shared words number b
     this words x = let found : (tree : Tree) × IsCode h shared b.ops.items b.last tree × Spells words number 0 tree = last.code words x in
         record { head = λ block at. last.head words block x at; tree = found.0; code = found.1; spelled = found.2 }
+
     by_place : (words : Words) → Extends words f → (k : ℕ) (c : Block) → slice_get blocks k ≡ Some c → (k < i) ⊎ (k ≡ i) → Stands h shared words k c
     by_place words x k c at (inl less) = front.stand words (last.extends words x) k c less at
     by_place words x k c at (inr eq) =

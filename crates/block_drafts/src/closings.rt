@@ -30,17 +30,35 @@ fn target(places: &Places, f: Arg) -> u32
     }
 }
 
-fn end_call(draft: &mut Draft, alloc: Global, places: &Places, f: Arg, args: &[Arg]) -> Result<(), Memory>
+fn end_call(
+    draft: &mut Draft,
+    alloc: Global,
+    places: &Places,
+    f: Arg,
+    args: &[Arg],
+) -> Result<(), Memory>
     requires { IsProper draft.old }
     ensures proper { OnOk result (IsProper draft.new) }
     ensures code { (h : Choice) (shared : Shared) → IsChoice h shared places.now → OnOk result (Closes (end_code h shared places.now.free (Last.Call f args.now)) draft.old draft.new) }
 {
     let xs = operands(alloc, places, args)?;
-    call(draft, alloc, target(places, f), operand(places, f), xs.as_slice())?;
+    call(
+        draft,
+        alloc,
+        target(places, f),
+        operand(places, f),
+        xs.as_slice(),
+    )?;
     Ok(())
 }
 
-fn end_jump(draft: &mut Draft, alloc: Global, places: &Places, block: u32, args: &[Arg]) -> Result<(), Memory>
+fn end_jump(
+    draft: &mut Draft,
+    alloc: Global,
+    places: &Places,
+    block: u32,
+    args: &[Arg],
+) -> Result<(), Memory>
     requires { IsProper draft.old }
     ensures proper { OnOk result (IsProper draft.new) }
     ensures code { (h : Choice) (shared : Shared) → IsChoice h shared places.now → OnOk result (Closes (end_code h shared places.now.free (Last.Jump block args.now)) draft.old draft.new) }
@@ -50,7 +68,14 @@ fn end_jump(draft: &mut Draft, alloc: Global, places: &Places, block: u32, args:
     Ok(())
 }
 
-fn end_if(draft: &mut Draft, alloc: Global, places: &Places, x: Arg, first: u32, second: u32) -> Result<(), Memory>
+fn end_if(
+    draft: &mut Draft,
+    alloc: Global,
+    places: &Places,
+    x: Arg,
+    first: u32,
+    second: u32,
+) -> Result<(), Memory>
     requires { IsProper draft.old }
     ensures proper { OnOk result (IsProper draft.new) }
     ensures code { (h : Choice) (shared : Shared) → IsChoice h shared places.now → OnOk result (Closes (end_code h shared places.now.free (Last.If x first second)) draft.old draft.new) }

@@ -10,7 +10,9 @@ ghost use Rattle.word_drafts.specs.Drafts.{IsProper, Writes};
 ghost use Rattle.block_drafts.specs.Fitting.{IsChoice};
 
 use cps_ir::Arg;
-use frame_drafts::{cell_get, cell_set, closure_get, frame_get, global_change, global_get, global_set, pop_frame};
+use frame_drafts::{
+    cell_get, cell_set, closure_get, frame_get, global_change, global_get, global_set, pop_frame,
+};
 use frame_ir::FrameOp;
 use operand_drafts::{Places, operand, operands};
 use prim_drafts::prim;
@@ -18,7 +20,14 @@ use std::alloc::Global;
 use t_base::{Memory, Prim, Var};
 use word_drafts::Draft;
 
-fn builtin(draft: &mut Draft, alloc: Global, places: &Places, to: Var, p: Prim, args: &[Arg]) -> Result<(), Memory>
+fn builtin(
+    draft: &mut Draft,
+    alloc: Global,
+    places: &Places,
+    to: Var,
+    p: Prim,
+    args: &[Arg],
+) -> Result<(), Memory>
     requires proper { IsProper draft.old }
     requires few { places.now.free ≤ 4294967200 }
     ensures proper { OnOk result (IsProper draft.new) }
@@ -38,7 +47,14 @@ fn set_cell(draft: &mut Draft, places: &Places, cell: Var, x: Arg) -> Result<(),
     Ok(())
 }
 
-fn put_global(draft: &mut Draft, alloc: Global, places: &Places, global: u32, x: Arg, first: bool) -> Result<(), Memory>
+fn put_global(
+    draft: &mut Draft,
+    alloc: Global,
+    places: &Places,
+    global: u32,
+    x: Arg,
+    first: bool,
+) -> Result<(), Memory>
     requires { IsProper draft.old }
     ensures proper { OnOk result (IsProper draft.new) }
     ensures code { (h : Choice) (shared : Shared) (ops : List FrameOp) → IsChoice h shared places.now → OnOk result (Writes (op_code h shared places.now.free (Op.GlobalPut global x first) ops) draft.old draft.new) }
@@ -64,7 +80,11 @@ pub fn plain(draft: &mut Draft, alloc: Global, places: &Places, op: &FrameOp) ->
         FrameOp::CellGet { to, cell } => cell_get(draft, *to, *cell),
         FrameOp::CellSet { cell, value } => set_cell(draft, places, *cell, *value),
         FrameOp::GlobalGet { to, global } => global_get(draft, alloc, *to, *global),
-        FrameOp::GlobalPut { global, value, first } => put_global(draft, alloc, places, *global, *value, *first),
+        FrameOp::GlobalPut {
+            global,
+            value,
+            first,
+        } => put_global(draft, alloc, places, *global, *value, *first),
         FrameOp::Pop => pop_frame(draft, places.free),
         _ => Err(Memory),
     }

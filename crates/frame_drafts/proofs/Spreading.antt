@@ -1,10 +1,9 @@
 -- What is written one behind the other.
-use Rattle.std.proofs.Common.{◌≡◌, ℕ, suc, ◌+◌, ◌<◌, List, [], ◌∷◌, ◌++◌, length, take, get_or, refl, sym, ap, ◌∙◌, subst, arith}
+use Rattle.std.proofs.Common.{◌≡◌, ℕ, suc, ◌+◌, ◌<◌, List, [], ◌∷◌, ◌++◌, length, take, get_or, sym, ap, ◌∙◌, subst, arith}
 use Rattle.std.proofs.lemmas.List.{take_more, length-take-le}
-use Rattle.word_ir.specs.declared.words.Words.{Words}
 use Rattle.word_trees.specs.Trees.{Tree}
 use Rattle.word_drafts.specs.declared.drafts.Draft.{Draft}
-use Rattle.word_drafts.specs.Drafts.{Extends, SpellsNext, Writes}
+use Rattle.word_drafts.specs.Drafts.{SpellsNext, Writes}
 use Rattle.word_drafts.proofs.Joining.{then_writes}
 
 pub writes_none : (a : Draft) → Writes (λ rest. rest) a a
@@ -39,5 +38,6 @@ module _ {X : Type 0} (f : ℕ → X → Tree → Tree) (run : ℕ → List X �
     where
       length_take : (ys : List X) (n : ℕ) → n < length ys → length (take n ys) ≡ n
       length_take ys n less = length-take-le n ys (omega (arith, less))
+
       take_one : (ys : List X) (n : ℕ) (y : X) → y ≡ get_or ys n y → n < length ys → take (n + 1) ys ≡ take n ys ++ y ∷ []
       take_one ys n y at less = take_more ys n y less ∙ ap (λ z. take n ys ++ z ∷ []) (sym at)

@@ -25,12 +25,7 @@ pub fn halt(draft: &mut Draft, alloc: Global, x: Operand) -> Result<(), Memory>
 }
 
 /// A block ends by a jump. The only error is the want of memory.
-pub fn jump(
-    draft: &mut Draft,
-    alloc: Global,
-    block: u32,
-    args: Operands,
-) -> Result<(), Memory>
+pub fn jump(draft: &mut Draft, alloc: Global, block: u32, args: Operands) -> Result<(), Memory>
     requires { IsProper draft.old }
     ensures { OnOk result (Closes (jump block args) draft.old draft.new) }
 {

@@ -1,6 +1,6 @@
 -- Where a program of words has what a program with frames names: tables of words, 0 where nothing is.
-use Rattle.std.specs.Prelude.{◌≡◌, ℕ, List, Option, slice_get}
-use Rattle.std.specs.Option.{option_map, option_map_or}
+use Rattle.std.specs.Prelude.{◌≡◌, ℕ, List, slice_get}
+use Rattle.std.specs.Option.{option_map_or}
 use Rattle.t_base.specs.declared.builtins.Builtin.{Builtin}
 use Rattle.t_base.specs.declared.shared_parts.Shared.{Shared}
 use Rattle.t_prim.specs.Values.{SymbolV, StringV, Literal, PairV, ClosureV, OperationV, BuiltinV}

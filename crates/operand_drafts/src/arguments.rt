@@ -35,20 +35,8 @@ fn constant_word(places: &Places, constant: Const) -> u32
     ensures { (l : Layout) (shared : Shared) → ArePlaces l shared places.now → result ≡ or_zero (fixed_word l (val_of constant)) }
 {
     match constant {
-        Const::Fix(x) => {
-            if is_fixnum(x) {
-                fixnum_word(x)
-            } else {
-                0
-            }
-        }
-        Const::Char(c) => {
-            if c < 128 {
-                256 * u32::from(c) + 1
-            } else {
-                0
-            }
-        }
+        Const::Fix(x) => { if is_fixnum(x) { fixnum_word(x) } else { 0 } }
+        Const::Char(c) => { if c < 128 { 256 * u32::from(c) + 1 } else { 0 } }
         Const::Nil => 5,
         Const::True => 9,
         Const::Sym(name) => word_at(&places.symbols, name.0),

@@ -133,13 +133,7 @@ fn by_two(
 }
 
 /// Builtins without operands.
-fn by_none(
-    draft: &mut Draft,
-    alloc: Global,
-    p: Prim,
-    t: u32,
-    to: Var,
-) -> Result<(), Memory>
+fn by_none(draft: &mut Draft, alloc: Global, p: Prim, t: u32, to: Var) -> Result<(), Memory>
     requires proper { IsProper draft.old }
     requires few { t ≤ 4294967288 }
     ensures { OnOk result (Writes (code_at (code_of p) ([]) t to) draft.old draft.new) }

@@ -185,6 +185,7 @@ begins_block old new place params p is lt ge none blocks heads begun number ops 
     still : (k : ℕ) → IsBegun old k → k ≡ place → ⊥
     still k (inl less) eq = omega (arith, less, eq, is)
     still k (inr more) eq = omega (arith, more, eq, lt)
+
     later : (k : ℕ) → IsBegun old k → IsBegun new k
     later k (inl less) = inl (omega (arith, less, begun, is))
     later k (inr more) = inr (omega (arith, more, heads))

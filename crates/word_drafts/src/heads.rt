@@ -3,8 +3,8 @@
 ghost use Rattle.std.specs.Prelude.{IfOk};
 ghost use Rattle.word_drafts.specs.Drafts.{IsProper, Begins, Finishes};
 
-use crate::drafts::empty_block;
 use crate::Draft;
+use crate::drafts::empty_block;
 use std::alloc::Global;
 use t_base::{Memory, Vars};
 use word_ir::WordBlock;
