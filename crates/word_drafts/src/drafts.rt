@@ -1,10 +1,12 @@
 //! A program under way.
 
 ghost use Rattle.std.specs.Prelude.{◌≡◌, ◌<◌, IfOk, OnOk, length, slice_set, [], ◌∷◌};
-ghost use Rattle.word_trees.specs.Trees.{Do, Or, Ask, Compute, Take, Push};
+ghost use Rattle.word_ir.specs.declared.operands.Operand.TheVariants as operand;
+ghost use Rattle.word_ir.specs.declared.words.WordOp.TheVariants as op;
+ghost use Rattle.word_trees.specs.Trees.{Do, Or, Ask, Close, Compute, Take, Push};
 ghost use Rattle.select_rows.specs.Macros.{fault, never};
 ghost use Rattle.select_rows.specs.Codes.{no_heap};
-ghost use Rattle.word_drafts.specs.Drafts.{IsProper, Writes, Ends, Adds, WritesApart, WritesBeside, WritesTestApart, unless_true, ends_here, ends_by};
+ghost use Rattle.word_drafts.specs.Drafts.{IsProper, Writes, Ends, Adds, WritesApart, WritesBeside, WritesTestApart, unless_true, ends_here, Closes};
 
 use std::alloc::Global;
 use std::mem;
@@ -23,7 +25,7 @@ pub struct Draft {
     pub ops: Vec<WordOp>,
 }
 
-fn empty_block(alloc: Global) -> WordBlock {
+pub(crate) fn empty_block(alloc: Global) -> WordBlock {
     WordBlock {
         params: Vars::from_vec(Vec::new(alloc)),
         ops: Vec::new(alloc),
@@ -105,6 +107,23 @@ impl Draft {
         let mut args = Vec::new(alloc);
         args.push(bytes)?;
         args.push(Operand::Word(0))?;
+        let mut ops = Vec::new(alloc);
+        ops.push(WordOp::Service {
+            number: 4,
+            args: Operands::from_vec(args),
+        })?;
+        let place = self.behind(alloc, ops, WordEnd::Stop)?;
+        Ok(place)
+    }
+
+    /// A block that ends the run for want of so many bytes of the heap (0) or of the stack (1), and its number. The only error is the want of memory.
+    pub fn full(&mut self, alloc: Global, bytes: Operand, kind: u32) -> Result<u32, Memory>
+        requires { IsProper self.old }
+        ensures { IfOk result (λ place. WritesApart (Do (op.Service 4 (bytes ∷ operand.Word kind ∷ [])) never) place self.old self.new) }
+    {
+        let mut args = Vec::new(alloc);
+        args.push(bytes)?;
+        args.push(Operand::Word(kind))?;
         let mut ops = Vec::new(alloc);
         ops.push(WordOp::Service {
             number: 4,
@@ -250,7 +269,7 @@ impl Draft {
     /// The block under way has an end, and an empty one is under way. The only error is the want of memory.
     pub fn close(&mut self, alloc: Global, end: WordEnd) -> Result<(), Memory>
         requires { IsProper self.old }
-        ensures { OnOk result (Writes (ends_by end) self.old self.new) }
+        ensures { OnOk result (Closes (Close end) self.old self.new) }
     {
         self.split(alloc, end)?;
         Ok(())
