@@ -12,13 +12,13 @@ ghost use Rattle.lap_items.specs.Ends.{is_taken, homes_of_params, homes_of_block
 ghost use Rattle.lap_emit.specs.Marks.{AreMarks};
 ghost use Rattle.lap_emit.specs.Written.{AddsEnd};
 
-use crate::homes::home_of;
 use crate::moves::push_arguments;
-use crate::operands::{
-    FIRST_WORK, SECOND_WORK, WORK_ADDRESS, push_item, push_load, push_plain, push_source, source_of,
-};
 use m68020_asm::Item;
 use m68020_code::{Cond, Ea, Instr};
+use operation_items::homes::home_of;
+use operation_items::operands::{
+    FIRST_WORK, SECOND_WORK, WORK_ADDRESS, push_item, push_load, push_plain, push_source, source_of,
+};
 use std::alloc::Global;
 use t_base::{Memory, Var};
 use word_ir::{Home, Operand, Placed, Test, WordBlock, WordEnd};

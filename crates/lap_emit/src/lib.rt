@@ -2,16 +2,9 @@
 //! walk over the blocks.
 #![tactic(auto)]
 
-mod arithmetic;
-mod bytes;
 mod ends;
-mod homes;
 mod moves;
-mod operands;
-mod operations;
 mod program;
-mod services;
-mod storage;
 mod taken;
 
 pub use crate::program::emit;

@@ -6,9 +6,9 @@ ghost use Rattle.lap_items.specs.Moves.{move_between, moving, moves_to, filling,
 ghost use Rattle.lap_items.specs.Program.{single_move, moves_between};
 ghost use Rattle.lap_emit.specs.Written.{AddsMoves, AddsArguments};
 
-use crate::homes::{at_home, home_at, home_of, number_of_home, put_into};
-use crate::operands::{push_item, push_source, source_of};
 use m68020_asm::Item;
+use operation_items::homes::{at_home, home_at, home_of, number_of_home, put_into};
+use operation_items::operands::{push_item, push_source, source_of};
 use parallel_moves::{Move, OneMove, sequence};
 use std::alloc::Global;
 use t_base::Memory;

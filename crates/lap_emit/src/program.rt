@@ -15,10 +15,10 @@ ghost use Rattle.lap_emit.specs.Written.{AddsBlock, AddsBlocks};
 
 use crate::ends::{CONVENTION, homes_of_params, is_taken, push_end};
 use crate::moves::{moves_between, push_at_once};
-use crate::operands::push_item;
-use crate::operations::push_op;
 use crate::taken::taken_marks;
 use m68020_asm::Item;
+use operation_items::operands::push_item;
+use operation_items::operations::push_op;
 use parallel_moves::Move;
 use std::alloc::Global;
 use t_base::Memory;
