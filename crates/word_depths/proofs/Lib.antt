@@ -1,0 +1,5 @@
+pub mod Services
+pub mod Depths
+pub mod Standing
+pub mod Rooms
+pub mod Starts
