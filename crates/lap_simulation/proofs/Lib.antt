@@ -1,4 +1,5 @@
 pub mod Turning
 pub mod Blocks
+pub mod Deep
 pub mod Stepping
 pub mod Keeping
