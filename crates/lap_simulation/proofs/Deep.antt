@@ -1,16 +1,14 @@
 -- From line to line the stack is as deep as the account of homes says.
 use Rattle.std.specs.Prelude.{Contains}
 use Rattle.std.specs.List.{list_any}
-use Rattle.std.specs.Option.{option_map_or}
 use Rattle.std.proofs.Common.{◌≡◌, ℕ, zero, suc, ◌+◌, ◌==◌, nat_lt, Bool, true, false, ◌||◌, inl, inr, ◌⊎◌, List, [], ◌∷◌, ◌++◌, length, Some, slice_get, refl, sym, ap, subst, ◌∙◌, arith}
 use Rattle.std.proofs.lemmas.Bool.{and_parts, eqb-true}
 use Rattle.word_ir.specs.declared.placed.Placed.{Placed}
 use Rattle.word_ir.specs.declared.words.WordBlock.{WordBlock}
 use Rattle.word_ir.specs.declared.words.WordOp.{WordOp}
-use Rattle.word_ir.specs.declared.words.WordEnd.TheVariants as last
-use Rattle.word_ir.specs.Lines.{Line, Op, Last, line_at, line_in, exits_of}
+use Rattle.word_ir.specs.Lines.{Line, Op, line_at, line_in, exits_of}
 use Rattle.word_ir.specs.Word.{Code}
-use Rattle.word_ir.specs.State.{Setting, State as WordState}
+use Rattle.word_ir.specs.State.{State as WordState}
 use Rattle.word_ir.specs.Step.{placed_in}
 use Rattle.word_ir.specs.Ranges.{IsInPlace}
 use Rattle.word_ir.specs.Whole.{jumps_of, taken_blocks}

@@ -50,7 +50,7 @@ module _ (a : Assembly) (placed : Placed) (heap stack : ℕ) (built : IsBuilt a 
   abbrev boot : State
   boot = boot_of a.bytes (static_bytes placed.words.statics.items a.labels) (slice_index a.labels placed.words.entry) (record { heap = heap; stack = stack })
 
-  housed : IsHoused (placed_in placed (sizes_of heap stack))
+  pub housed : IsHoused (placed_in placed (sizes_of heap stack))
   housed = homes_serve placed (sizes_of heap stack) built.whole (size_small heap built.heap_is) (size_small stack built.stack_is)
 
   at_entry : (block : WordBlock) → slice_get placed.words.blocks.items placed.words.entry ≡ Some block → IsAt a boot placed.words.entry
@@ -68,7 +68,7 @@ module _ (a : Assembly) (placed : Placed) (heap stack : ℕ) (built : IsBuilt a 
         bytes = refl;
       }
 
-  first : Stage a placed heap stack built housed safe ends (start (placed_in placed (sizes_of heap stack))) (start_of boot)
+  pub first : Stage a placed heap stack built housed safe ends (start (placed_in placed (sizes_of heap stack))) (start_of boot)
   first = of_some (slice_get placed.words.blocks.items placed.words.entry) refl built.whole.words.shapes.entry
     where
       of_some : (x : Option WordBlock) → slice_get placed.words.blocks.items placed.words.entry ≡ x → IsSomeAnd x (λ block. block.params ≡ []) → Stage a placed heap stack built housed safe ends (start (placed_in placed (sizes_of heap stack))) (start_of boot)

@@ -2,7 +2,7 @@
 use Rattle.std.specs.Prelude.{IsSomeAnd, option_map}
 use Rattle.std.specs.List.{flat_map}
 use Rattle.std.specs.Option.{option_map_or}
-use Rattle.std.proofs.Common.{◌≡◌, ℕ, zero, suc, ◌+◌, ◌-◌, ◌*◌, ◌/◌, ◌≤◌, List, [], ◌∷◌, ◌++◌, length, drop, Option, Some, None, slice_get, inl, inr, refl, sym, ap, subst, ◌∙◌, arith, append_assoc, append-nil}
+use Rattle.std.proofs.Common.{◌≡◌, ℕ, zero, suc, ◌+◌, ◌-◌, ◌*◌, ◌/◌, ◌≤◌, Bool, List, [], ◌∷◌, ◌++◌, length, drop, Option, Some, None, slice_get, inl, inr, refl, sym, ap, subst, ◌∙◌, arith, append_assoc, append-nil}
 use Rattle.program_runs.specs.Runs.{End, Value, Faulted, Full, Broken}
 use Rattle.program_runs.specs.Keeps.{EndsWithin, IsSafe}
 use Rattle.program_runs.specs.Follows.{after, Machine, Alike, Matched, Simulates}
@@ -43,10 +43,11 @@ use Rattle.lap_whole.proofs.Lines.{lines_usable, operations_operable}
 use Rattle.lap_whole.proofs.Listed.{Listed, listed_flat, each_listed}
 use Rattle.word_depths.specs.Laws.{IsDeep, KeepsDepth, StandsDeep}
 use Rattle.word_depths.proofs.Depths.{lines_keep_depth}
-use Rattle.lap_simulation.specs.Leads.{Arrived, Leads}
+use Rattle.lap_simulation.specs.Leads.{Arrived, Leads, Told}
 use Rattle.lap_simulation.specs.Laws.{IsBuilt, sizes_of, EndsLead}
 use Rattle.lap_simulation.proofs.Turning.{TurnsTo, op_turns}
 use Rattle.lap_simulation.proofs.Blocks.{at_start}
+use Rattle.lap_simulation.proofs.Left.{value_told, fault_told, full_told}
 use Rattle.lap_simulation.proofs.Deep.{next_deep, exit_deep, entered_deep}
 
 -- the operations from a place on
@@ -122,6 +123,7 @@ module _ (a : Assembly) (placed : Placed) (heap stack : ℕ) (built : IsBuilt a 
     pub stopped : q.end ≡ Some how
     pub alike : end_of a.names how ≡ end
     pub output : q.output ≡ s.output
+    pub told : Told how q.state
 
   pub data Stage (s : WordState) (q : Progress) : Type 0 where
     goes : Going s q → Stage s q
@@ -229,8 +231,8 @@ module _ (a : Assembly) (placed : Placed) (heap stack : ℕ) (built : IsBuilt a 
       }))
 
   -- to the end of the run
-  last_step : (s : WordState) (q : Progress) (g : Going s q) (e : End) (n moved : ℕ) → step m s ≡ moving moved (record s { end = Some e }) → n ≤ 13 * moved → EndsSo a s q.state n e → Step s q
-  last_step s q g e n moved is few so =
+  last_step : (s : WordState) (q : Progress) (g : Going s q) (e : End) (n moved : ℕ) → step m s ≡ moving moved (record s { end = Some e }) → n ≤ 13 * moved → (so : EndsSo a s q.state n e) → Told so.0 so.2.to → Step s q
+  last_step s q g e n moved is few so told =
       matched_by s q g n moved (record s { end = Some e }) [] (Some so.0) (λ u. next_of u ≡ s.next) is refl few so.2 so.2.there
       (over (record {
         end = e;
@@ -239,6 +241,7 @@ module _ (a : Assembly) (placed : Placed) (heap stack : ℕ) (built : IsBuilt a 
         stopped = refl;
         alike = so.1;
         output = nothing_more q.output ∙ g.output;
+        told = told;
       }))
 
   -- a safe run doesn't break
@@ -269,17 +272,17 @@ module _ (a : Assembly) (placed : Placed) (heap stack : ℕ) (built : IsBuilt a 
       of_some (Some block) h = (block, refl, h)
 
   op_step : (s : WordState) (q : Progress) (g : Going s q) (o : WordOp) → slice_get g.block.ops.items s.place ≡ Some o → (e : Effect) → step m s ≡ moving (moves_of (Op o)) (changed s e) → TurnsTo (op_exits o) e → KeepsDepth m s (g.deep).depth (Op o) e
-      → Comes a m s q.state (rest_items g.block (s.place + 1) g.last) (13 * moves_of (Op o)) e → Step s q
-  op_step s q g o here (Binds to x) is turns kept comes =
+      → ((region : Bool) (asked left n : ℕ) → e ≡ Ends (Full region asked left) → (so : EndsSo a s q.state n (Full region asked left)) → Told so.0 so.2.to) → Comes a m s q.state (rest_items g.block (s.place + 1) g.last) (13 * moves_of (Op o)) e → Step s q
+  op_step s q g o here (Binds to x) is turns kept full comes =
       let k = hold_counts s to x in
       next_line s q g o here (13 * moves_of (Op o)) (moves_of (Op o)) (changed s (Binds to x)) [] is (ap (λ c. c.0) k) (omega arith) (ap (λ c. c.1) k ∙ g.going) (ap (λ c. c.2) k ∙ sym (nothing_more s.output)) (ap (λ c. c.3) k) (ap (λ c. c.4 + 1) k) (subst (λ top. IsDeep m top (depth_behind (g.deep).depth (Op o))) (sym (ap (λ c. c.5) k)) kept) comes
-  op_step s q g o here (Stores at x) is turns kept comes = next_line s q g o here (13 * moves_of (Op o)) (moves_of (Op o)) (changed s (Stores at x)) [] is refl (omega arith) g.going (sym (nothing_more s.output)) refl refl kept comes
-  op_step s q g o here (Takes to bytes) is turns kept comes =
+  op_step s q g o here (Stores at x) is turns kept full comes = next_line s q g o here (13 * moves_of (Op o)) (moves_of (Op o)) (changed s (Stores at x)) [] is refl (omega arith) g.going (sym (nothing_more s.output)) refl refl kept comes
+  op_step s q g o here (Takes to bytes) is turns kept full comes =
       let k = hold_counts s to (Number s.next) in
       next_line s q g o here (13 * moves_of (Op o)) (moves_of (Op o)) (changed s (Takes to bytes)) [] is (ap (λ c. c.0) k) (omega arith) (ap (λ c. c.1) k ∙ g.going) (ap (λ c. c.2) k ∙ sym (nothing_more s.output)) (ap (λ c. c.3) k) (ap (λ c. c.4 + 1) k) (subst (λ top. IsDeep m top (depth_behind (g.deep).depth (Op o))) (sym (ap (λ c. c.5) k)) kept) comes
-  op_step s q g o here (SetsTop top) is turns kept comes = next_line s q g o here (13 * moves_of (Op o)) (moves_of (Op o)) (changed s (SetsTop top)) [] is refl (omega arith) g.going (sym (nothing_more s.output)) refl refl kept comes
-  op_step s q g o here (Puts bytes) is turns kept comes = next_line s q g o here (13 * moves_of (Op o)) (moves_of (Op o)) (changed s (Puts bytes)) bytes is refl (omega arith) g.going refl refl refl kept comes
-  op_step s q g o here (Turns b) is turns kept comes =
+  op_step s q g o here (SetsTop top) is turns kept full comes = next_line s q g o here (13 * moves_of (Op o)) (moves_of (Op o)) (changed s (SetsTop top)) [] is refl (omega arith) g.going (sym (nothing_more s.output)) refl refl kept comes
+  op_step s q g o here (Puts bytes) is turns kept full comes = next_line s q g o here (13 * moves_of (Op o)) (moves_of (Op o)) (changed s (Puts bytes)) bytes is refl (omega arith) g.going refl refl refl kept comes
+  op_step s q g o here (Turns b) is turns kept full comes =
       let open_block = open_start s q g o here b turns in
       next_block s q g b (13 * moves_of (Op o)) (moves_of (Op o)) (changed s (Turns b)) is refl (omega arith) g.going refl refl refl
       (exit_deep a placed heap stack built s g.block g.there g.deep (Op o) (ap (λ x. option_map_or Op x (Last g.block.last)) here) b open_block.0 (inl kept) open_block.1)
@@ -292,11 +295,12 @@ module _ (a : Assembly) (placed : Placed) (heap stack : ℕ) (built : IsBuilt a 
         costs = comes.costs;
         there = (comes.there.0, at_start a placed b open_block.0 comes.to built.emitted open_block.1 open_block.2 comes.there.1);
       })
-  op_step s q g o here (Enters b env) is turns kept comes = absurd turns
-  op_step s q g o here (Ends (Value shown)) is turns kept comes = last_step s q g (Value shown) (13 * moves_of (Op o)) (moves_of (Op o)) is (omega arith) comes
-  op_step s q g o here (Ends (Faulted fault)) is turns kept comes = last_step s q g (Faulted fault) (13 * moves_of (Op o)) (moves_of (Op o)) is (omega arith) comes
-  op_step s q g o here (Ends (Full stack asked left)) is turns kept comes = last_step s q g (Full stack asked left) (13 * moves_of (Op o)) (moves_of (Op o)) is (omega arith) comes
-  op_step s q g o here (Ends Broken) is turns kept comes = absurd (never_breaks s q g (moves_of (Op o)) is)
+  op_step s q g o here (Enters b env) is turns kept full comes = absurd turns
+  op_step s q g o here (Ends (Value shown)) is turns kept full comes = last_step s q g (Value shown) (13 * moves_of (Op o)) (moves_of (Op o)) is (omega arith) comes (value_told a.names comes.0 shown comes.2.to comes.1)
+  op_step s q g o here (Ends (Faulted fault)) is turns kept full comes = last_step s q g (Faulted fault) (13 * moves_of (Op o)) (moves_of (Op o)) is (omega arith) comes (fault_told a.names comes.0 fault comes.2.to comes.1)
+  op_step s q g o here (Ends (Full region asked left)) is turns kept full comes =
+      last_step s q g (Full region asked left) (13 * moves_of (Op o)) (moves_of (Op o)) is (omega arith) comes (full region asked left (13 * moves_of (Op o)) refl comes)
+  op_step s q g o here (Ends Broken) is turns kept full comes = absurd (never_breaks s q g (moves_of (Op o)) is)
 
   line_there : (s : WordState) (q : Progress) (g : Going s q) (o : Option WordOp) → slice_get g.block.ops.items s.place ≡ o → line_at m.words s.block s.place ≡ Some (option_map_or Op o (Last g.block.last))
   line_there s q g o e = ap (λ x. option_map (λ b. line_in b s.place) x) g.there ∙ ap (λ x. Some (option_map_or Op x (Last g.block.last))) e
@@ -337,7 +341,8 @@ module _ (a : Assembly) (placed : Placed) (heap stack : ℕ) (built : IsBuilt a 
           let rest = rest_items g.block (s.place + 1) g.last in
           let stands = subst (Stands a q.state) (ap (λ l. flat_map (op_items placed.at.items) l ++ end_items placed g.block.last g.last) (drop_at g.block.ops.items s.place o e)
           ∙ append_assoc (op_items placed.at.items o) (flat_map (op_items placed.at.items) (drop (s.place + 1) g.block.ops.items)) (end_items placed g.block.last g.last)) g.stands in
-          op_step s q g o e (op_effect m s o) (step_is s (Op o) g.going line) (op_turns m s o) (lines_keep_depth m s (g.deep).depth (Op o) g.place (g.deep).deep) (operations_arrive a m s q.state rest o built.names housed g.place g.is operable usable.shaped stands)
+          op_step s q g o e (op_effect m s o) (step_is s (Op o) g.going line) (op_turns m s o) (lines_keep_depth m s (g.deep).depth (Op o) g.place (g.deep).deep)
+          (λ region asked left n effect so. full_told a m s q.state o rest region asked left n housed g.place g.is operable.operands usable.shaped stands effect so) (operations_arrive a m s q.state rest o built.names housed g.place g.is operable usable.shaped stands)
       by_line None e =
           let line = line_there s q g None e in
           let at_end = past g.block.ops.items s.place e g.inside in
