@@ -1,5 +1,5 @@
 -- The items of the end of a block lead to where the end does.
-use Rattle.std.specs.Prelude.{IsSomeAnd, if◌then◌else◌, option_map}
+use Rattle.std.specs.Prelude.{Contains, IsSomeAnd, if◌then◌else◌, option_map}
 use Rattle.std.specs.List.{AllByRecursion, flat_map, list_any}
 use Rattle.std.specs.Option.{option_map_or}
 use Rattle.std.proofs.Common.{◌≡◌, ℕ, zero, suc, ◌+◌, ◌*◌, ◌≤◌, ◌<◌, ◌==◌, nat_lt, ◌||◌, Bool, true, false, List, [], ◌∷◌, ◌++◌, length, map, Option, Some, None, slice_get, slice_index, refl, sym, ap, subst, ◌∙◌, arith, append_assoc, append-nil}
@@ -16,9 +16,9 @@ use Rattle.word_ir.specs.declared.words.Test.{Test}
 use Rattle.word_ir.specs.declared.words.WordBlock.{WordBlock}
 use Rattle.word_ir.specs.declared.words.WordEnd.{WordEnd}
 use Rattle.word_ir.specs.declared.words.WordEnd.TheVariants as last
-use Rattle.word_ir.specs.Lines.{Op, Last, line_at, line_in, lines_from, lines_of, moves_of, exits_of}
+use Rattle.word_ir.specs.Lines.{Line, Op, Last, line_at, line_in, lines_from, lines_of, moves_of, exits_of, operand_var, uses_of}
 use Rattle.word_ir.specs.Word.{Word, Number, Code, block_of}
-use Rattle.word_ir.specs.State.{Setting, State as WordState, Env, hold_all}
+use Rattle.word_ir.specs.State.{Setting, State as WordState, Env, Own, At, hold_all, has_room, keeper_of}
 use Rattle.word_ir.specs.Computing.{compared, is_of_tag}
 use Rattle.word_ir.specs.Effects.{Effect, Binds, Stores, Takes, SetsTop, Puts, Turns, Enters, Ends, breaks, or_broken, word_of, with_word, pairs_of, enters, turned, test_effect, jump_effect, block_at, end_effect}
 use Rattle.word_ir.specs.Step.{changed, into, placed_in}
@@ -61,13 +61,13 @@ use Rattle.lap_jumps.specs.Jumps.{CanJump, Entered}
 use Rattle.lap_jumps.proofs.Distinct.{params_distinct}
 use Rattle.lap_jumps.proofs.Jumping.{jumps_arrive}
 use Rattle.lap_jumps.proofs.Singles.{then_goes}
+use Rattle.word_depths.proofs.Rooms.{used_homes_have_room}
 use Rattle.lap_simulation.specs.Leads.{IsInBlock, Arrived, Leads}
 use Rattle.lap_simulation.specs.Laws.{IsBuilt, sizes_of, EndsLead}
 use Rattle.lap_simulation.proofs.Blocks.{at_start}
 use Rattle.lap_simulation.proofs.Keeping.{size_small}
 use Rattle.m68020_step.specs.Ranges.{IsInRange}
 use Rattle.lap_entries.proofs.Conventions.{with_convention, housed_too}
-use Rattle.lap_entries.proofs.Chosen.{NotInStack}
 use Rattle.lap_entries.proofs.Handing.{Handed, hand_steps, hand_few, hand_some, handed, settle_steps, settle_few, settles}
 
 -- ---- a way that puts nothing
@@ -152,6 +152,15 @@ mapped_length : {X Y : Type 0} (f : X → Y) (xs : List X) → length (map f xs)
 mapped_length f [] = refl
 mapped_length f (x ∷ xs) = ap suc (mapped_length f xs)
 
+behind_in : (xs ys : List Var) (v : Var) → Contains ys v → Contains (xs ++ ys) v
+behind_in [] ys v c = c
+behind_in (x ∷ xs) ys v c = let r = behind_in xs ys v c in (suc r.0, omega (arith, r.1), r.2)
+
+used : (args : List Operand) (k : ℕ) (v : Var) → slice_get args k ≡ Some (operand.Var v) → Contains (flat_map operand_var args) v
+used [] k v e = absurd (cc)
+used (x ∷ args) zero v e = let same : x ≡ operand.Var v = cc in subst (λ o. Contains (flat_map operand_var (o ∷ args)) v) (sym same) (0, omega arith, refl)
+used (x ∷ args) (suc k) v e = behind_in (operand_var x) (flat_map operand_var args) v (used args k v e)
+
 -- ---- at the end of a block
 
 module _ (a : Assembly) (placed : Placed) (heap stack : ℕ) (built : IsBuilt a placed heap stack) where
@@ -160,9 +169,6 @@ module _ (a : Assembly) (placed : Placed) (heap stack : ℕ) (built : IsBuilt a 
 
   pub housed : IsHoused (placed_in placed (sizes_of heap stack))
   housed = homes_serve placed (sizes_of heap stack) built.whole (size_small heap built.heap_is) (size_small stack built.stack_is)
-
-  bare : (h : Home) → ((k : ℕ) × (slice_get placed.at.items k ≡ Some h)) → NotInStack h
-  bare h one n e = built.no_stack_homes one.0 n (one.1 ∙ ap Some e)
 
   -- ---- blocks
 
@@ -229,6 +235,10 @@ module _ (a : Assembly) (placed : Placed) (heap stack : ℕ) (built : IsBuilt a 
       none (x ∷ done) le = absurd (omega (arith, le))
 
   module _ (s : WordState) (place : IsInPlace (placed_in placed (sizes_of heap stack)) s) where
+    -- the homes of operands in the stack are inside of it
+    abbrev Reach : List Operand → Type 0
+    Reach args = (k : ℕ) (v : Var) (n : ℕ) → slice_get args k ≡ Some (operand.Var v) → home_of placed.at.items v ≡ home.Stack n → has_room s (At (home.Stack n)) ≡ true
+
     -- a test
     test_leads : (t : State) (k : Test) (x y : Operand) (f g : ℕ) (block : WordBlock) → slice_get placed.words.blocks.items s.block ≡ Some block → block.last ≡ last.Test k x y f g → (e : Effect) → TestTurns (f ∷ g ∷ []) e
         → Comes a (placed_in placed (sizes_of heap stack)) s t [] (13 * moves_of (Last (last.Test k x y f g))) e → Leads a placed (sizes_of heap stack) s t (13 * moves_of (Last (last.Test k x y f g))) e
@@ -258,7 +268,8 @@ module _ (a : Assembly) (placed : Placed) (heap stack : ℕ) (built : IsBuilt a 
 
     -- ---- to a block whose code is taken
 
-    module _ (args : List Operand) (usable : (k : ℕ) (x : Operand) → slice_get args k ≡ Some x → IsUsable (placed_in placed (sizes_of heap stack)) x) (few : length args ≤ 7) (b : ℕ) (target : WordBlock) (there : slice_get placed.words.blocks.items b ≡ Some target) (taken : is_taken placed.words b ≡ true)
+    module _ (args : List Operand) (usable : (k : ℕ) (x : Operand) → slice_get args k ≡ Some x → IsUsable (placed_in placed (sizes_of heap stack)) x)
+        (reached : Reach args) (few : length args ≤ 7) (b : ℕ) (target : WordBlock) (there : slice_get placed.words.blocks.items b ≡ Some target) (taken : is_taken placed.words b ≡ true)
         (env : Env Word) (bound : pairs_of (placed_in placed (sizes_of heap stack)) s target.params (map (word_of (placed_in placed (sizes_of heap stack)) s) args) ≡ Some env) (done : List OneMove) (does : DoesAtOnce (moves_to placed.at.items args convention) done) where
       abbrev Behind : State → Type 0
       Behind u = Arrived a placed (sizes_of heap stack) (into b (hold_all (record s { env = [] }) env)) b u
@@ -268,7 +279,7 @@ module _ (a : Assembly) (placed : Placed) (heap stack : ℕ) (built : IsBuilt a 
 
       -- from its label
       module _ (t : State) (range : IsInRange t) (is : Represents (placed_in placed (sizes_of heap stack)) a.labels s t) where
-        goes_in : (y : WordState) (u v : State) → Handed a (placed_in placed (sizes_of heap stack)) housed bare s t place range is args usable done does y u → Represents (with_convention (placed_in placed (sizes_of heap stack))) a.labels y v → IsAt a v b → (k : ℕ) × (k ≤ most) × Path a k v Behind
+        goes_in : (y : WordState) (u v : State) → Handed a (placed_in placed (sizes_of heap stack)) housed s t place range is args usable reached done does y u → Represents (with_convention (placed_in placed (sizes_of heap stack))) a.labels y v → IsAt a v b → (k : ℕ) × (k ≤ most) × Path a k v Behind
         unfolding most
         goes_in y u v g is2 at =
             let begins = blocks_stand a placed b target v built.emitted there at in
@@ -276,9 +287,9 @@ module _ (a : Assembly) (placed : Placed) (heap stack : ℕ) (built : IsBuilt a 
             let distinct = params_distinct placed b target built.whole there in
             let enters = subst (λ ms. DoesAtOnce ms begins.first) (taken_moves b target taken) begins.enters in
             let rest = ops_items placed target ++ end_items placed target.last begins.last in (
-              settle_steps a (placed_in placed (sizes_of heap stack)) housed bare s t place range is args usable done does y u v g is2 begins.stands.range b target homed distinct few begins.first enters 0,
-              (let f = settle_few a (placed_in placed (sizes_of heap stack)) housed bare s t place range is args usable done does y u v g is2 begins.stands.range b target homed distinct few begins.first enters 0 in omega (arith, f)),
-              settles a (placed_in placed (sizes_of heap stack)) housed bare s t place range is args usable done does y u v g is2 begins.stands.range b target homed distinct few begins.first enters 0 rest Behind env bound
+              settle_steps a (placed_in placed (sizes_of heap stack)) housed s t place range is args usable reached done does y u v g is2 begins.stands.range b target homed distinct few begins.first enters 0,
+              (let f = settle_few a (placed_in placed (sizes_of heap stack)) housed s t place range is args usable reached done does y u v g is2 begins.stands.range b target homed distinct few begins.first enters 0 in omega (arith, f)),
+              settles a (placed_in placed (sizes_of heap stack)) housed s t place range is args usable reached done does y u v g is2 begins.stands.range b target homed distinct few begins.first enters 0 rest Behind env bound
                   (subst (Stands a v) (append_assoc (moved_items begins.first) (ops_items placed target) (end_items placed target.last begins.last)) begins.stands)
                   (λ w is3 stands3. arrived a w Behind (is3, record { block = target; there = there; last = begins.last; leaves = begins.leaves; stands = stands3 })),
             )
@@ -292,11 +303,11 @@ module _ (a : Assembly) (placed : Placed) (heap stack : ℕ) (built : IsBuilt a 
         -- by a branch
         jumps : Stands a t (moved_items done ++ (fill_items placed.at.items args convention ++ Branch Bra b ∷ [])) → (le : ℕ) → 1 + 3 * length args + most ≤ le → Tells a le t [] None Behind
         jumps stands le low =
-            let steps = hand_steps a (placed_in placed (sizes_of heap stack)) housed bare s t place range is args usable done does in
-            let short = hand_few a (placed_in placed (sizes_of heap stack)) housed bare s t place range is args usable done does (suc most) in
-            let some = hand_some a (placed_in placed (sizes_of heap stack)) housed bare s t place range is args usable done does (suc most) in
+            let steps = hand_steps a (placed_in placed (sizes_of heap stack)) housed s t place range is args usable reached done does in
+            let short = hand_few a (placed_in placed (sizes_of heap stack)) housed s t place range is args usable reached done does (suc most) in
+            let some = hand_some a (placed_in placed (sizes_of heap stack)) housed s t place range is args usable reached done does (suc most) in
             told a (steps (suc most)) le t Behind (omega (arith, some)) (omega (arith, short, low))
-            (handed a (placed_in placed (sizes_of heap stack)) housed bare s t place range is args usable done does (suc most) (Branch Bra b ∷ []) Behind stands
+            (handed a (placed_in placed (sizes_of heap stack)) housed s t place range is args usable reached done does (suc most) (Branch Bra b ∷ []) Behind stands
             (λ y u g six stands2. then_on a most u (AtLabel y) Behind
             (branch a 0 u Bra b [] (AtLabel y) stands2
             (λ h pc at. arrived a (at_pc u pc) (AtLabel y) (beside_represents (with_convention (placed_in placed (sizes_of heap stack))) a.labels 8 y u (at_pc u pc) more_housed (omega arith) g.is (beside_pc u pc 8), at))
@@ -304,7 +315,7 @@ module _ (a : Assembly) (placed : Placed) (heap stack : ℕ) (built : IsBuilt a 
             (λ v x. goes_in y u v g x.0 x.1)))
 
         -- by A3
-        by_address : (y : WordState) (u v : State) → Handed a (placed_in placed (sizes_of heap stack)) housed bare s t place range is args usable done does y u → Represents (with_convention (placed_in placed (sizes_of heap stack))) a.labels y v
+        by_address : (y : WordState) (u v : State) → Handed a (placed_in placed (sizes_of heap stack)) housed s t place range is args usable reached done does y u → Represents (with_convention (placed_in placed (sizes_of heap stack))) a.labels y v
             → address_at v.registers 3 ≡ slice_index a.labels b → Stands a v (Plain (Jmp (Ind 3)) ∷ []) → Path a (suc most) v Behind
         unfolding executed jump address_of
         by_address y u v g is2 three stands =
@@ -319,53 +330,49 @@ module _ (a : Assembly) (placed : Placed) (heap stack : ℕ) (built : IsBuilt a 
         -- by the code of a known block
         enters_known : Stands a t (moved_items done ++ (fill_items placed.at.items args convention ++ CodeAddr 3 b ∷ Plain (Jmp (Ind 3)) ∷ [])) → (le : ℕ) → 2 + 3 * length args + most ≤ le → Tells a le t [] None Behind
         enters_known stands le low =
-            let steps = hand_steps a (placed_in placed (sizes_of heap stack)) housed bare s t place range is args usable done does in
-            let short = hand_few a (placed_in placed (sizes_of heap stack)) housed bare s t place range is args usable done does (suc (suc most)) in
-            let some = hand_some a (placed_in placed (sizes_of heap stack)) housed bare s t place range is args usable done does (suc (suc most)) in
+            let steps = hand_steps a (placed_in placed (sizes_of heap stack)) housed s t place range is args usable reached done does in
+            let short = hand_few a (placed_in placed (sizes_of heap stack)) housed s t place range is args usable reached done does (suc (suc most)) in
+            let some = hand_some a (placed_in placed (sizes_of heap stack)) housed s t place range is args usable reached done does (suc (suc most)) in
             told a (steps (suc (suc most))) le t Behind (omega (arith, some)) (omega (arith, short, low))
-            (handed a (placed_in placed (sizes_of heap stack)) housed bare s t place range is args usable done does (suc (suc most)) (CodeAddr 3 b ∷ Plain (Jmp (Ind 3)) ∷ []) Behind stands
+            (handed a (placed_in placed (sizes_of heap stack)) housed s t place range is args usable reached done does (suc (suc most)) (CodeAddr 3 b ∷ Plain (Jmp (Ind 3)) ∷ []) Behind stands
             (λ y u g six stands2. code_goes a (with_convention (placed_in placed (sizes_of heap stack))) more_housed (suc most) u b (Plain (Jmp (Ind 3)) ∷ []) Behind stands2
             (λ v beside three stands3. by_address y u v g (beside_represents (with_convention (placed_in placed (sizes_of heap stack))) a.labels 8 y u v more_housed (omega arith) g.is beside) three stands3)))
 
         -- by D6
         enters_by_six : data_at t.registers 6 ≡ slice_index a.labels b → Stands a t (moved_items done ++ (fill_items placed.at.items args convention ++ Plain (MoveaL (D 6) 3) ∷ Plain (Jmp (Ind 3)) ∷ []))
-            → Path a (hand_steps a (placed_in placed (sizes_of heap stack)) housed bare s t place range is args usable done does (suc (suc most))) t Behind
+            → Path a (hand_steps a (placed_in placed (sizes_of heap stack)) housed s t place range is args usable reached done does (suc (suc most))) t Behind
         enters_by_six code stands =
-            handed a (placed_in placed (sizes_of heap stack)) housed bare s t place range is args usable done does (suc (suc most)) (Plain (MoveaL (D 6) 3) ∷ Plain (Jmp (Ind 3)) ∷ []) Behind stands
+            handed a (placed_in placed (sizes_of heap stack)) housed s t place range is args usable reached done does (suc (suc most)) (Plain (MoveaL (D 6) 3) ∷ Plain (Jmp (Ind 3)) ∷ []) Behind stands
             (λ y u g six stands2. move_base_goes a (with_convention (placed_in placed (sizes_of heap stack))) more_housed (suc most) u (D 6) (slice_index a.labels b) (Plain (Jmp (Ind 3)) ∷ []) Behind stands2 (reads_data u 6 (slice_index a.labels b) (six ∙ code))
             (λ v beside three stands3. by_address y u v g (beside_represents (with_convention (placed_in placed (sizes_of heap stack))) a.labels 8 y u v more_housed (omega arith) g.is beside) three stands3))
 
     -- ---- jumps
 
-    can_jump : (t : State) (args : List Operand) (b : ℕ) (target : WordBlock) → slice_get placed.words.blocks.items b ≡ Some target → ((k : ℕ) (x : Operand) → slice_get args k ≡ Some x → IsUsable (placed_in placed (sizes_of heap stack)) x) → CanJump (placed_in placed (sizes_of heap stack)) s args target
-    can_jump t args b target there usable = record {
+    can_jump : (t : State) (args : List Operand) (b : ℕ) (target : WordBlock) → slice_get placed.words.blocks.items b ≡ Some target → ((k : ℕ) (x : Operand) → slice_get args k ≡ Some x → IsUsable (placed_in placed (sizes_of heap stack)) x) → Reach args
+        → CanJump (placed_in placed (sizes_of heap stack)) s args target
+    can_jump t args b target there usable reached = record {
       operands = usable;
-      reached = λ k v n e q. absurd (reach k v n e q);
+      reached = reached;
       params = params_homed b target there;
       distinct = params_distinct placed b target built.whole there;
     }
-      where
-        reach : (k : ℕ) (v : Var) (n : ℕ) → slice_get args k ≡ Some (operand.Var v) → home_of placed.at.items v ≡ home.Stack n → ⊥
-        reach k v n e q =
-            let h = usable k (operand.Var v) e in
-            built.no_stack_homes v.0 n (h.1 ∙ ap Some (sym (get_or_from_slice_get placed.at.items v.0 h.0 (home.D 0) h.1) ∙ q))
 
     jump_leads : (t : State) → Represents (placed_in placed (sizes_of heap stack)) a.labels s t → (args : List Operand) (b : ℕ) (target : WordBlock) → slice_get placed.words.blocks.items b ≡ Some target
-        → ((k : ℕ) (x : Operand) → slice_get args k ≡ Some x → IsUsable (placed_in placed (sizes_of heap stack)) x) → length args ≡ length target.params → (env : Env Word)
+        → ((k : ℕ) (x : Operand) → slice_get args k ≡ Some x → IsUsable (placed_in placed (sizes_of heap stack)) x) → Reach args → length args ≡ length target.params → (env : Env Word)
         → pairs_of (placed_in placed (sizes_of heap stack)) s target.params (map (word_of (placed_in placed (sizes_of heap stack)) s) args) ≡ Some env → (done : List OneMove)
         → DoesAtOnce (end_moves placed (last.Jump b args)) done → Stands a t (end_items placed (last.Jump b args) done)
         → end_effect (placed_in placed (sizes_of heap stack)) s (last.Jump b args) ≡ Enters b env → (t_ : Bool) → is_taken placed.words b ≡ t_ → Leads a placed (sizes_of heap stack) s t (13 * (1 + length args)) (Enters b env)
     unfolding end_moves end_items most
-    jump_leads t is args b target there usable same env bound done does stands effect true taken =
+    jump_leads t is args b target there usable reached same env bound done does stands effect true taken =
         let places = taken_places b taken in
         let few : length args ≤ 7 = let f = few_params b target taken there in omega (arith, f, same) in
         let short = moves_short convention (homes_of_params placed.at.items target) in
         let count = mapped_length (home_of placed.at.items) target.params in
         let stands2 = subst (λ l. Stands a t (moved_items done ++ fill_items placed.at.items args l ++ Branch Bra b ∷ [])) places stands in
-        jumps args usable few b target there taken env bound done (subst (λ l. DoesAtOnce (moves_to placed.at.items args l) done) places does) t stands.range is
+        jumps args usable reached few b target there taken env bound done (subst (λ l. DoesAtOnce (moves_to placed.at.items args l) done) places does) t stands.range is
         (subst (Stands a t) (append_assoc (moved_items done) (fill_items placed.at.items args convention) (Branch Bra b ∷ [])) stands2) (13 * (1 + length args)) (omega (arith, short, count, same))
-    jump_leads t is args b target there usable same env bound done does stands effect false open_block =
-        let way = jumps_arrive a placed (sizes_of heap stack) s t [] b target args done there open_block housed place is (can_jump t args b target there usable) does (subst (Stands a t) (sym (append-nil (end_items placed (last.Jump b args) done))) stands) in
+    jump_leads t is args b target there usable reached same env bound done does stands effect false open_block =
+        let way = jumps_arrive a placed (sizes_of heap stack) s t [] b target args done there open_block housed place is (can_jump t args b target there usable reached) does (subst (Stands a t) (sym (append-nil (end_items placed (last.Jump b args) done))) stands) in
         let path = subst (Entered a (placed_in placed (sizes_of heap stack)) s t (1 + 3 * length args)) effect way in
         told a (1 + 3 * length args) (13 * (1 + length args)) t (Arrived a placed (sizes_of heap stack) (changed s (Enters b env)) b) (omega arith) (omega arith)
         (then_holds a (1 + 3 * length args) t (λ u. Represents (placed_in placed (sizes_of heap stack)) a.labels (changed s (Enters b env)) u × IsAt a u b) (Arrived a placed (sizes_of heap stack) (changed s (Enters b env)) b)
@@ -373,7 +380,8 @@ module _ (a : Assembly) (placed : Placed) (heap stack : ℕ) (built : IsBuilt a 
 
     -- ---- Enters
 
-    module _ (code : Operand) (args : List Operand) (usable : (k : ℕ) (x : Operand) → slice_get args k ≡ Some x → IsUsable (placed_in placed (sizes_of heap stack)) x) (few : length args ≤ 7) (b : ℕ) (target : WordBlock) (there : slice_get placed.words.blocks.items b ≡ Some target)
+    module _ (code : Operand) (args : List Operand) (usable : (k : ℕ) (x : Operand) → slice_get args k ≡ Some x → IsUsable (placed_in placed (sizes_of heap stack)) x)
+        (reached : Reach args) (few : length args ≤ 7) (b : ℕ) (target : WordBlock) (there : slice_get placed.words.blocks.items b ≡ Some target)
         (env : Env Word) (bound : pairs_of (placed_in placed (sizes_of heap stack)) s target.params (map (word_of (placed_in placed (sizes_of heap stack)) s) args) ≡ Some env) (done : List OneMove) (does : DoesAtOnce (moves_to placed.at.items args convention) done)
         (t : State) (is : Represents (placed_in placed (sizes_of heap stack)) a.labels s t) (usable_code : IsUsable (placed_in placed (sizes_of heap stack)) code) (word : word_of (placed_in placed (sizes_of heap stack)) s code ≡ Some (Code b)) where
       entered_taken : is_taken placed.words b ≡ true
@@ -382,36 +390,36 @@ module _ (a : Assembly) (placed : Placed) (heap stack : ℕ) (built : IsBuilt a 
       loaded : Stands a t (load_items placed.at.items code 6 ++ (moved_items done ++ (fill_items placed.at.items args convention ++ Plain (MoveaL (D 6) 3) ∷ Plain (Jmp (Ind 3)) ∷ []))) → Leads a placed (sizes_of heap stack) s t (13 * (2 + length args)) (Enters b env)
       unfolding most
       loaded stands =
-          let short = hand_few a (placed_in placed (sizes_of heap stack)) housed bare s t place stands.range is args usable done does (suc (suc (most args usable few b target there entered_taken env bound done does))) in
+          let short = hand_few a (placed_in placed (sizes_of heap stack)) housed s t place stands.range is args usable reached done does (suc (suc (most args usable reached few b target there entered_taken env bound done does))) in
           let low = moves_few convention (homes_of_params placed.at.items target) in
           told a _ (13 * (2 + length args)) t (Arrived a placed (sizes_of heap stack) (changed s (Enters b env)) b) (omega arith) (omega (arith, short, low))
-          (load_goes a (placed_in placed (sizes_of heap stack)) housed (hand_steps a (placed_in placed (sizes_of heap stack)) housed bare s t place stands.range is args usable done does (suc (suc (most args usable few b target there entered_taken env bound done does))))
+          (load_goes a (placed_in placed (sizes_of heap stack)) housed (hand_steps a (placed_in placed (sizes_of heap stack)) housed s t place stands.range is args usable reached done does (suc (suc (most args usable reached few b target there entered_taken env bound done does))))
           s t code 6 (Code b) _ (Arrived a placed (sizes_of heap stack) (changed s (Enters b env)) b) (omega arith) place is usable_code word stands
-          (λ u beside six stands2. enters_by_six args usable few b target there entered_taken env bound done does u stands2.range (beside_represents (placed_in placed (sizes_of heap stack)) a.labels 6 s t u housed (omega arith) is beside) six stands2))
+          (λ u beside six stands2. enters_by_six args usable reached few b target there entered_taken env bound done does u stands2.range (beside_represents (placed_in placed (sizes_of heap stack)) a.labels 6 s t u housed (omega arith) is beside) six stands2))
 
       known : Stands a t (moved_items done ++ (fill_items placed.at.items args convention ++ CodeAddr 3 b ∷ Plain (Jmp (Ind 3)) ∷ [])) → Leads a placed (sizes_of heap stack) s t (13 * (2 + length args)) (Enters b env)
       unfolding most
       known stands =
           let low = moves_few convention (homes_of_params placed.at.items target) in
-          enters_known args usable few b target there entered_taken env bound done does t stands.range is stands (13 * (2 + length args)) (omega (arith, low))
+          enters_known args usable reached few b target there entered_taken env bound done does t stands.range is stands (13 * (2 + length args)) (omega (arith, low))
 
     regrouped : (c m_ f r : List Item) (t : State) → Stands a t (((c ++ m_) ++ f) ++ r) → Stands a t (c ++ (m_ ++ (f ++ r)))
     regrouped c m_ f r t stands = subst (Stands a t) (append_assoc (c ++ m_) f r ∙ append_assoc c m_ (f ++ r)) stands
 
     enter_leads : (t : State) → Represents (placed_in placed (sizes_of heap stack)) a.labels s t → (code : Operand) (args : List Operand) → IsUsable (placed_in placed (sizes_of heap stack)) code → ((k : ℕ) (x : Operand) → slice_get args k ≡ Some x → IsUsable (placed_in placed (sizes_of heap stack)) x)
-        → length args ≤ 7 → (b : ℕ) (target : WordBlock) → slice_get placed.words.blocks.items b ≡ Some target → (env : Env Word) → pairs_of (placed_in placed (sizes_of heap stack)) s target.params (map (word_of (placed_in placed (sizes_of heap stack)) s) args) ≡ Some env
+        → Reach args → length args ≤ 7 → (b : ℕ) (target : WordBlock) → slice_get placed.words.blocks.items b ≡ Some target → (env : Env Word) → pairs_of (placed_in placed (sizes_of heap stack)) s target.params (map (word_of (placed_in placed (sizes_of heap stack)) s) args) ≡ Some env
         → (done : List OneMove) → DoesAtOnce (end_moves placed (last.Enter code args)) done → Stands a t (end_items placed (last.Enter code args) done) → word_of (placed_in placed (sizes_of heap stack)) s code ≡ Some (Code b)
         → Leads a placed (sizes_of heap stack) s t (13 * (2 + length args)) (Enters b env)
     unfolding end_moves end_items code_items into_a3
-    enter_leads t is (operand.Code c) args u usable few b target there env bound done does stands word =
+    enter_leads t is (operand.Code c) args u usable reached few b target there env bound done does stands word =
         let same : c ≡ b = cc in
-        known (operand.Code c) args usable few b target there env bound done does t is u word
+        known (operand.Code c) args usable reached few b target there env bound done does t is u word
         (subst (λ x. Stands a t (moved_items done ++ (fill_items placed.at.items args convention ++ CodeAddr 3 x ∷ Plain (Jmp (Ind 3)) ∷ []))) same (regrouped [] (moved_items done) (fill_items placed.at.items args convention) (CodeAddr 3 c ∷ Plain (Jmp (Ind 3)) ∷ []) t stands))
-    enter_leads t is (operand.Var v) args u usable few b target there env bound done does stands word =
-        loaded (operand.Var v) args usable few b target there env bound done does t is u word (regrouped (load_items placed.at.items (operand.Var v) 6) (moved_items done) (fill_items placed.at.items args convention) (Plain (MoveaL (D 6) 3) ∷ Plain (Jmp (Ind 3)) ∷ []) t stands)
-    enter_leads t is (operand.Word n) args u usable few b target there env bound done does stands word = absurd (cc)
-    enter_leads t is (operand.Static n) args u usable few b target there env bound done does stands word = absurd (cc)
-    enter_leads t is (operand.Slot n) args u usable few b target there env bound done does stands word = absurd (cc)
+    enter_leads t is (operand.Var v) args u usable reached few b target there env bound done does stands word =
+        loaded (operand.Var v) args usable reached few b target there env bound done does t is u word (regrouped (load_items placed.at.items (operand.Var v) 6) (moved_items done) (fill_items placed.at.items args convention) (Plain (MoveaL (D 6) 3) ∷ Plain (Jmp (Ind 3)) ∷ []) t stands)
+    enter_leads t is (operand.Word n) args u usable reached few b target there env bound done does stands word = absurd (cc)
+    enter_leads t is (operand.Static n) args u usable reached few b target there env bound done does stands word = absurd (cc)
+    enter_leads t is (operand.Slot n) args u usable reached few b target there env bound done does stands word = absurd (cc)
 
 -- ---- all ends
 
@@ -421,13 +429,25 @@ at_length (x ∷ xs) = at_length xs
 
 pub ends_lead : EndsLead
 unfolding end_items
-ends_lead a placed heap stack built n s t block done reached going there at_end place is leaves stands = by_end block.last refl leaves stands
+ends_lead a placed heap stack built n s t block done from going there at_end place deep is leaves stands = by_end block.last refl leaves stands
   where
     m : Setting
     m = placed_in placed (sizes_of heap stack)
 
     line : line_at placed.words s.block s.place ≡ Some (Last block.last)
     line = ap (λ x. option_map (λ b. line_in b s.place) x) there ∙ ap (λ x. Some (option_map_or Op x (Last block.last))) (ap (slice_get block.ops.items) at_end ∙ at_length block.ops.items)
+
+    here : line_in deep.is s.place ≡ Last block.last
+    here = same_line (line_in deep.is s.place) (Last block.last) (sym (ap (λ x. option_map (λ b. line_in b s.place) x) deep.there) ∙ line)
+      where
+        same_line : (x y : Line) → Some x ≡ Some y → x ≡ y
+        same_line x y e = cc
+
+    -- the home in the stack of a variable that the end uses is inside of it
+    room : (v : Var) (n : ℕ) → Contains (uses_of (Last block.last)) v → HasHome (placed_in placed (sizes_of heap stack)) v → home_of placed.at.items v ≡ home.Stack n → has_room s (At (home.Stack n)) ≡ true
+    room v n uses h at =
+        let keeper : keeper_of placed.at.items v ≡ At (home.Stack n) = ap (λ (o : Option Home). option_map_or At o (Own v.0)) h.1 ∙ ap At (sym (get_or_from_slice_get placed.at.items v.0 h.0 (home.D 0) h.1) ∙ at) in
+        used_homes_have_room placed (sizes_of heap stack) built.whole s deep v n place (subst (λ l. Contains (uses_of l) v) (sym here) uses) keeper
 
     by_end : (e : WordEnd) → block.last ≡ e → DoesAtOnce (end_moves placed e) done → Stands a t (end_items placed e done) → Leads a placed (sizes_of heap stack) s t (13 * moves_of (Last e)) (end_effect (placed_in placed (sizes_of heap stack)) s e)
     by_end last.Stop is_last does stands = tt
@@ -454,7 +474,7 @@ ends_lead a placed heap stack built n s t block done reached going there at_end 
                     → Leads a placed (sizes_of heap stack) s t (13 * (1 + length args)) (or_broken o (λ env. Enters b env))
                 by_pairs None r = tt
                 by_pairs (Some env) r =
-                    jump_leads a placed heap stack built s place t is args b target e usable (eqb-true (length args) (length target.params) q) env r done does stands
+                    jump_leads a placed heap stack built s place t is args b target e usable (λ k v n q at. room v n (subst (λ z. Contains (uses_of (Last z)) v) (sym is_last) (used args k v q)) (usable k (operand.Var v) q) at) (eqb-true (length args) (length target.params) q) env r done does stands
                     (ap (λ o. or_broken o (jump_effect (placed_in placed (sizes_of heap stack)) s b args)) e ∙ ap (λ c. if c then enters (placed_in placed (sizes_of heap stack)) s b target.params args else breaks) q ∙ ap (λ o. or_broken o (λ env. Enters b env)) r)
                     (is_taken placed.words b) refl
     by_end (last.Enter code args) is_last does stands =
@@ -473,7 +493,8 @@ ends_lead a placed heap stack built n s t block done reached going there at_end 
                 → Leads a placed (sizes_of heap stack) s t (13 * (2 + length args)) (or_broken o (λ env. Enters b env))
             by_pairs None r = tt
             by_pairs (Some env) r =
-                enter_leads a placed heap stack built s place t is code args usable_line.operands.0 (λ k x q. each_at (IsUsable (placed_in placed (sizes_of heap stack))) args k x usable_line.operands.1 q) usable_line.shaped b target e env r done does stands word
+                enter_leads a placed heap stack built s place t is code args usable_line.operands.0 (λ k x q. each_at (IsUsable (placed_in placed (sizes_of heap stack))) args k x usable_line.operands.1 q)
+                (λ k v n q at. room v n (subst (λ z. Contains (uses_of (Last z)) v) (sym is_last) (behind_in (operand_var code) (flat_map operand_var args) v (used args k v q))) (each_at (IsUsable (placed_in placed (sizes_of heap stack))) args k (operand.Var v) usable_line.operands.1 q) at) usable_line.shaped b target e env r done does stands word
 
         by_word : (o : Option Word) → word_of (placed_in placed (sizes_of heap stack)) s code ≡ o
             → Leads a placed (sizes_of heap stack) s t (13 * (2 + length args)) (or_broken o (λ x. or_broken (block_of x) (λ b. or_broken (block_at (placed_in placed (sizes_of heap stack)) b) (λ target. enters (placed_in placed (sizes_of heap stack)) s b target.params args))))

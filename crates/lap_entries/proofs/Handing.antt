@@ -1,8 +1,8 @@
--- Arguments go to where an Enter puts them, and from there to the homes of a block's parameters. No home is in the stack.
+-- Arguments go to where an Enter puts them, and from there to the homes of a block's parameters.
 use Rattle.std.specs.List.{list_any}
 use Rattle.std.specs.Option.{option_map_or}
 use Rattle.std.specs.Prelude.{if◌then◌else◌}
-use Rattle.std.proofs.Common.{◌≡◌, ℕ, zero, suc, ◌+◌, ◌*◌, ◌≤◌, ◌<◌, Bool, true, false, ◌||◌, List, [], ◌∷◌, ◌++◌, length, map, Option, Some, None, slice_get, inl, inr, ◌⊎◌, ⊎_elim, refl, sym, ap, subst, ◌∙◌, arith}
+use Rattle.std.proofs.Common.{◌≡◌, ℕ, zero, suc, ◌+◌, ◌*◌, ◌≤◌, ◌<◌, nat_lt, Bool, true, false, ◌||◌, List, [], ◌∷◌, ◌++◌, length, map, Option, Some, None, slice_get, inl, inr, refl, sym, ap, subst, ◌∙◌, arith}
 use Rattle.std.proofs.lemmas.Option.{get_or_from_slice_get}
 use Rattle.t_base.specs.declared.basics.Var.{Var}
 use Rattle.word_ir.specs.declared.operands.Operand.{Operand}
@@ -11,7 +11,8 @@ use Rattle.word_ir.specs.declared.placed.Home.{Home}
 use Rattle.word_ir.specs.declared.placed.Home.TheVariants as home
 use Rattle.word_ir.specs.declared.words.WordBlock.{WordBlock}
 use Rattle.word_ir.specs.Word.{Word}
-use Rattle.word_ir.specs.State.{Setting, State as WordState, Own, At, Env, held, hold_all, has_room, same_home}
+use Rattle.word_ir.specs.Storage.{STACK_START, place_from, long_at}
+use Rattle.word_ir.specs.State.{Setting, State as WordState, Own, At, Env, held, hold_all, has_room, same_home, stack_at}
 use Rattle.word_ir.specs.Effects.{word_of, pairs_of}
 use Rattle.word_ir.specs.Step.{into}
 use Rattle.word_ir.specs.Ranges.{IsInPlace}
@@ -28,15 +29,16 @@ use Rattle.lap_items.specs.Program.{moves_between}
 use Rattle.lap_runs.specs.Represents.{HasWord, Represents}
 use Rattle.lap_paths.specs.Paths.{Assembly, Stands, Path}
 use Rattle.lap_paths.specs.Housed.{IsHoused, HasHome, IsUsable}
+use Rattle.lap_paths.proofs.WordStorage.{stack_word, visible}
 use Rattle.lap_jumps.specs.Carries.{IsOne}
 use Rattle.lap_jumps.specs.Arguments.{AreDistinct, ComesFrom, Given}
 use Rattle.lap_jumps.proofs.Carrying.{steps_after, steps_many}
 use Rattle.lap_jumps.proofs.Completing.{with_env}
 use Rattle.lap_jumps.proofs.Arguments.{fill_steps, arguments_go}
 use Rattle.lap_jumps.proofs.Binding.{tells, bound_represents}
-use Rattle.lap_jumps.proofs.Jumping.{few_steps, some_steps}
-use Rattle.lap_entries.proofs.Conventions.{get_left, get_right, convention_registers, no_stack, with_convention, housed_too, usable_too, keeper_same, represents_less, bare_represents, moves_same, fills_same}
-use Rattle.lap_entries.proofs.Chosen.{NotInStack, Chosen, chosen, same_told, same_self}
+use Rattle.lap_jumps.proofs.Jumping.{roomy, of_roomy, is_roomy, has_place, search, few_steps, some_steps}
+use Rattle.lap_entries.proofs.Conventions.{get_left, get_right, convention_registers, no_stack, with_convention, housed_too, usable_too, home_same, keeper_same, represents_less, bare_represents, moves_same, fills_same}
+use Rattle.lap_entries.proofs.Chosen.{Chosen, chosen, same_told, same_self}
 
 -- ---- lists
 
@@ -142,32 +144,20 @@ module _ (a : Assembly) (m : Setting) (homes : List Home) (housed : IsHoused m) 
 
 -- ---- a state with a word in each home
 
-module _ (a : Assembly) (m : Setting) (housed : IsHoused m) (bare : (h : Home) → IsOne m.homes h → NotInStack h) where
+module _ (a : Assembly) (m : Setting) (housed : IsHoused m) where
   abbrev more : Setting
   more = with_convention m
 
   abbrev more_homes : List Home
   more_homes = m.homes ++ convention
 
-  pub lodged : (h : Home) → IsOne (m.homes ++ convention) h → IsOne (m.homes ++ convention) h
-  lodged h one = one
+  pub lodged : (s : WordState) (h : Home) → IsOne (roomy s (m.homes ++ convention)) h → IsOne (m.homes ++ convention) h
+  lodged s h one = (of_roomy s (m.homes ++ convention) h one).0
 
-  bare_too : (h : Home) → IsOne (m.homes ++ convention) h → NotInStack h
-  bare_too h one = ⊎_elim (λ l. bare h l) (λ r. no_stack h (convention_registers h r)) (split h one)
-    where
-      split : (h : Home) → IsOne (m.homes ++ convention) h → IsOne m.homes h ⊎ IsOne convention h
-      split h one = by m.homes one.0 one.1
-        where
-          by : (xs : List Home) (k : ℕ) → slice_get (xs ++ convention) k ≡ Some h → IsOne xs h ⊎ IsOne convention h
-          by [] k e = inr (k, e)
-          by (x ∷ xs) zero e = inl (0, e)
-          by (x ∷ xs) (suc k) e = ⊎_elim (λ l. inl (suc l.0, l.1)) (λ r. inr r) (by xs k e)
-
-  roomy : (s : WordState) (h : Home) → NotInStack h → has_room s (At h) ≡ true
-  roomy s (home.D i) out = refl
-  roomy s (home.A i) out = refl
-  roomy s (home.Static i) out = refl
-  roomy s (home.Stack n) out = absurd (out n refl)
+  -- a register has room
+  roomy_convention : (s : WordState) (k : ℕ) (h : Home) → slice_get convention k ≡ Some h → IsOne (roomy s (m.homes ++ convention)) h
+  roomy_convention s k h e =
+      is_roomy s (m.homes ++ convention) h (length m.homes + k) (get_right m.homes convention k ∙ e) (has_place s h (λ n q. absurd (no_stack h (convention_registers h (k, e)) n q)))
 
   pub in_place_too : (s : WordState) → IsInPlace m s → IsInPlace (with_convention m) s
   in_place_too s p = record {
@@ -227,13 +217,31 @@ module _ (a : Assembly) (m : Setting) (housed : IsHoused m) (bare : (h : Home) �
       chosen (with_convention m) a.labels (wanted_in (m.homes ++ convention) s) s t (housed_too m housed) place range (wanted_real (m.homes ++ convention) a.labels s t (λ k h w e q. is.homes k h w e q)) (m.homes ++ convention) is_home_too
       (bare_represents m a.labels s t (represents_less m a.labels s t is))
 
+  -- what a home of a setting has stays there
+  chosen_keeps : (homes : List Home) (s : WordState) (t : State) (c : Chosen (with_convention m) a.labels (wanted_in homes s) s t (m.homes ++ convention)) (h : Home) (w : Word) → IsOne homes h → IsOne (m.homes ++ convention) h → held s (At h) ≡ Some w
+      → held (with_env s c.env) (At h) ≡ Some w
+  chosen_keeps homes s t c (home.D i) w one more has = c.wanted (home.D i) w more (λ n e. absurd (cc)) (wanted_there homes s (home.D i) one ∙ has)
+  chosen_keeps homes s t c (home.A i) w one more has = c.wanted (home.A i) w more (λ n e. absurd (cc)) (wanted_there homes s (home.A i) one ∙ has)
+  chosen_keeps homes s t c (home.Static i) w one more has = c.wanted (home.Static i) w more (λ n e. absurd (cc)) (wanted_there homes s (home.Static i) one ∙ has)
+  chosen_keeps homes s t c (home.Stack n) w one more has = has
+
+  room_same : (s y : WordState) → IsInPlace m s → IsInPlace (with_convention m) y → y.top ≡ s.top → (h : Home) → has_room s (At h) ≡ true → has_room y (At h) ≡ true
+  room_same s y p q top (home.D i) room = refl
+  room_same s y p q top (home.A i) room = refl
+  room_same s y p q top (home.Static i) room = refl
+  room_same s y p q top (home.Stack n) room =
+      let longs : length y.storage.stack ≡ length s.storage.stack = q.stack ∙ sym p.stack in
+      ap (λ (z : ℕ). if nat_lt (z + 4 * n) STACK_START then false else nat_lt (place_from STACK_START (z + 4 * n)) (length y.storage.stack)) top
+      ∙ ap (λ (z : ℕ). if nat_lt (s.top + 4 * n) STACK_START then false else nat_lt (place_from STACK_START (s.top + 4 * n)) z) longs ∙ room
+
   home_there : (v : Var) → HasHome m v → IsOne (m.homes ++ convention) (home_of (m.homes ++ convention) v)
   home_there v h =
       let there = get_left m.homes convention v.0 h.0 h.1 in (v.0, there ∙ ap Some (sym (get_or_from_slice_get (m.homes ++ convention) v.0 h.0 (home.D 0) there)))
 
   -- ---- to where an Enter puts them
 
-  module _ (s : WordState) (t : State) (place : IsInPlace m s) (range : IsInRange t) (is : Represents m a.labels s t) (args : List Operand) (usable : (k : ℕ) (x : Operand) → slice_get args k ≡ Some x → IsUsable m x) (done : List OneMove)
+  module _ (s : WordState) (t : State) (place : IsInPlace m s) (range : IsInRange t) (is : Represents m a.labels s t) (args : List Operand) (usable : (k : ℕ) (x : Operand) → slice_get args k ≡ Some x → IsUsable m x)
+      (reached : (k : ℕ) (v : Var) (n : ℕ) → slice_get args k ≡ Some (operand.Var v) → home_of m.homes v ≡ home.Stack n → has_room s (At (home.Stack n)) ≡ true) (done : List OneMove)
       (does : DoesAtOnce (moves_to m.homes args convention) done) where
     start : Chosen (with_convention m) a.labels (wanted_in m.homes s) s t (m.homes ++ convention)
     start = filled s t place range is
@@ -245,8 +253,7 @@ module _ (a : Assembly) (m : Setting) (housed : IsHoused m) (bare : (h : Home) �
     operand_word (operand.Var v) w u e =
         let key = ap (λ (q : Option Home). option_map_or At q (Own v.0)) u.1 in
         let has : held s (At u.0) ≡ Some w = subst (λ q. held s q ≡ Some w) key e in
-        let wanted : wanted_in m.homes s u.0 ≡ Some w = wanted_there m.homes s u.0 (v.0, u.1) ∙ has in
-        let now = (filled s t place range is).wanted u.0 w (v.0, get_left m.homes convention v.0 u.0 u.1) (bare u.0 (v.0, u.1)) wanted in
+        let now = chosen_keeps m.homes s t (filled s t place range is) u.0 w (v.0, u.1) (v.0, get_left m.homes convention v.0 u.0 u.1) has in
         subst (λ q. held (with_env s (filled s t place range is).env) q ≡ Some w) (sym (keeper_same m v u ∙ key)) now
     operand_word (operand.Word n) w u e = e
     operand_word (operand.Static n) w u e = e
@@ -254,38 +261,41 @@ module _ (a : Assembly) (m : Setting) (housed : IsHoused m) (bare : (h : Home) �
     operand_word (operand.Slot n) w u e = e
 
     abbrev pub Handed : WordState → State → Type 0
-    Handed y u = Given a (with_convention m) (m.homes ++ convention) (with_env s (filled s t place range is).env) args convention y u
+    Handed y u = Given a (with_convention m) (roomy s (m.homes ++ convention)) (with_env s (filled s t place range is).env) args convention y u
 
-    comes : (k : ℕ) (x : Operand) → slice_get args k ≡ Some x → ComesFrom (with_convention m) (m.homes ++ convention) x
-    comes k (operand.Var v) e = home_there v (usable k (operand.Var v) e)
+    comes : (k : ℕ) (x : Operand) → slice_get args k ≡ Some x → ComesFrom (with_convention m) (roomy s (m.homes ++ convention)) x
+    comes k (operand.Var v) e =
+        let u = usable k (operand.Var v) e in
+        let one = home_there v u in
+        is_roomy s (m.homes ++ convention) (home_of (m.homes ++ convention) v) one.0 one.1 (has_place s (home_of (m.homes ++ convention) v) (λ n q. reached k v n e (sym (home_same m v u) ∙ q)))
     comes k (operand.Word n) e = tt
     comes k (operand.Static n) e = tt
     comes k (operand.Code n) e = tt
     comes k (operand.Slot n) e = tt
 
     abbrev pub hand_steps : ℕ → ℕ
-    hand_steps n = steps_after a (with_convention m) (m.homes ++ convention) (housed_too m housed) lodged done (fill_steps a (with_convention m) (m.homes ++ convention) (housed_too m housed) lodged args convention n)
+    hand_steps n = steps_after a (with_convention m) (roomy s (m.homes ++ convention)) (housed_too m housed) (lodged s) done (fill_steps a (with_convention m) (roomy s (m.homes ++ convention)) (housed_too m housed) (lodged s) args convention n)
 
     pub handed : (n : ℕ) (items : List Item) (Q : State → Type 0) → Stands a t (moved_items done ++ (fill_items m.homes args convention ++ items)) → ((y : WordState) (u : State) → Handed y u → data_at u.registers 6 ≡ data_at t.registers 6 → Stands a u items → Path a n u Q)
         → Path a (hand_steps n) t Q
     handed n items Q stands rest =
         let c = filled s t place range is in
-        arguments_go a (with_convention m) (m.homes ++ convention) (housed_too m housed) lodged (with_env s c.env) t args convention done c.is (in_place_held s c.env (in_place_too s place)) (λ h one. c.each h one (roomy s h (bare_too h one)))
-        (λ k x e. usable_too m x (usable k x e)) comes (λ k p e. (length m.homes + k, get_right m.homes convention k ∙ e)) convention_distinct (subst (λ ms. DoesAtOnce ms done) (sym (moves_same m args convention usable)) does) n items Q
+        arguments_go a (with_convention m) (roomy s (m.homes ++ convention)) (housed_too m housed) (lodged s) (with_env s c.env) t args convention done c.is (in_place_held s c.env (in_place_too s place)) (λ h one. let r = of_roomy s (m.homes ++ convention) h one in c.each h r.0 r.1)
+        (λ k x e. usable_too m x (usable k x e)) comes (roomy_convention s) convention_distinct (subst (λ ms. DoesAtOnce ms done) (sym (moves_same m args convention usable)) does) n items Q
         (subst (λ fs. Stands a t (moved_items done ++ (fs ++ items))) (sym (fills_same m args convention)) stands) rest
 
     pub hand_few : (n : ℕ) → hand_steps n ≤ n + 3 * length args
     hand_few n =
-        let count = steps_many a (with_convention m) (m.homes ++ convention) (housed_too m housed) lodged done (fill_steps a (with_convention m) (m.homes ++ convention) (housed_too m housed) lodged args convention n) in
-        let few = few_steps a (with_convention m) (m.homes ++ convention) (housed_too m housed) lodged args convention n in
+        let count = steps_many a (with_convention m) (roomy s (m.homes ++ convention)) (housed_too m housed) (lodged s) done (fill_steps a (with_convention m) (roomy s (m.homes ++ convention)) (housed_too m housed) (lodged s) args convention n) in
+        let few = few_steps a (with_convention m) (roomy s (m.homes ++ convention)) (housed_too m housed) (lodged s) args convention n in
         let same = ap length (moves_same m args convention usable) in
         let short = does.few in
         omega (arith, count, few, same, short)
 
     pub hand_some : (n : ℕ) → n ≤ hand_steps n
     hand_some n =
-        let count = steps_many a (with_convention m) (m.homes ++ convention) (housed_too m housed) lodged done (fill_steps a (with_convention m) (m.homes ++ convention) (housed_too m housed) lodged args convention n) in
-        let some = some_steps a (with_convention m) (m.homes ++ convention) (housed_too m housed) lodged args convention n in
+        let count = steps_many a (with_convention m) (roomy s (m.homes ++ convention)) (housed_too m housed) (lodged s) done (fill_steps a (with_convention m) (roomy s (m.homes ++ convention)) (housed_too m housed) (lodged s) args convention n) in
+        let some = some_steps a (with_convention m) (roomy s (m.homes ++ convention)) (housed_too m housed) (lodged s) args convention n in
         omega (arith, count, some)
 
     -- ---- and from there to the homes of parameters
@@ -305,12 +315,13 @@ module _ (a : Assembly) (m : Setting) (housed : IsHoused m) (bare : (h : Home) �
       unfolding given_args
       given_usable k x e = let r = operand_is (length m.homes) 7 k x e in subst (IsUsable (with_convention m)) (sym r.1) (given_homed k r.0)
 
-      given_comes : (k : ℕ) (x : Operand) → slice_get given_args k ≡ Some x → ComesFrom (with_convention m) (m.homes ++ convention) x
+      given_comes : (k : ℕ) (x : Operand) → slice_get given_args k ≡ Some x → ComesFrom (with_convention m) (roomy s (m.homes ++ convention)) x
       unfolding given_args
       given_comes k x e =
           let r = operand_is (length m.homes) 7 k x e in
-          let h = given_homed k r.0 in
-          subst (ComesFrom (with_convention m) (m.homes ++ convention)) (sym r.1) (length m.homes + k, h.1 ∙ ap Some (sym (get_or_from_slice_get (m.homes ++ convention) (length m.homes + k) h.0 (home.D 0) h.1)))
+          let c = convention_at k r.0 in
+          let same : home_of (m.homes ++ convention) (record { 0 = length m.homes + k }) ≡ c.0 = get_or_from_slice_get (m.homes ++ convention) (length m.homes + k) c.0 (home.D 0) (get_right m.homes convention k ∙ c.1) in
+          subst (ComesFrom (with_convention m) (roomy s (m.homes ++ convention))) (sym r.1) (subst (λ h. IsOne (roomy s (m.homes ++ convention)) h) (sym same) (roomy_convention s k c.0 c.1))
 
       param_of : (params : List Var) (k : ℕ) (h : Home) → slice_get (map (home_of m.homes) params) k ≡ Some h → (v : Var) × (slice_get params k ≡ Some v) × (home_of m.homes v ≡ h)
       param_of [] k h e = absurd (cc)
@@ -328,7 +339,7 @@ module _ (a : Assembly) (m : Setting) (housed : IsHoused m) (bare : (h : Home) �
       again = filled_more y u2 g.place range2 is2
 
       abbrev Settled : WordState → State → Type 0
-      Settled z v = Given a (with_convention m) (m.homes ++ convention) (with_env y again.env) given_args (homes_of_params m.homes target) z v
+      Settled z v = Given a (with_convention m) (roomy s (m.homes ++ convention)) (with_env y again.env) given_args (homes_of_params m.homes target) z v
 
       -- the words of parameters
       gives : (z : WordState) (v : State) → Settled z v → (k : ℕ) (x : Operand) (to : Home) (w : Word) → slice_get args k ≡ Some x → slice_get (homes_of_params m.homes target) k ≡ Some to → word_of m s x ≡ Some w → held z (At to) ≡ Some w
@@ -338,7 +349,7 @@ module _ (a : Assembly) (m : Setting) (housed : IsHoused m) (bare : (h : Home) �
           let at = convention_at k lt in
           let got : held y (At at.0) ≡ Some w = g.gets k x at.0 w e at.1 (operand_word x w (usable k x e) there) in
           let one : IsOne (m.homes ++ convention) at.0 = (length m.homes + k, get_right m.homes convention k ∙ at.1) in
-          let now : held (with_env y again.env) (At at.0) ≡ Some w = again.wanted at.0 w one (bare_too at.0 one) (wanted_there (m.homes ++ convention) y at.0 one ∙ got) in
+          let now : held (with_env y again.env) (At at.0) ≡ Some w = again.wanted at.0 w one (no_stack at.0 (convention_registers at.0 (k, at.1))) (wanted_there (m.homes ++ convention) y at.0 one ∙ got) in
           let key = ap (λ (o : Option Home). option_map_or At o (Own (length m.homes + k))) (get_right m.homes convention k ∙ at.1) in
           settled.gets k (operand.Var (record { 0 = length m.homes + k })) to w (operand_at (length m.homes) 7 k lt) q (subst (λ o. held (with_env y again.env) o ≡ Some w) (sym key) now)
         where
@@ -349,20 +360,37 @@ module _ (a : Assembly) (m : Setting) (housed : IsHoused m) (bare : (h : Home) �
 
       arrives : (env : Env Word) → pairs_of m s target.params (map (word_of m s) args) ≡ Some env → (z : WordState) (v : State) → Settled z v → Represents m a.labels (into block (hold_all (record s { env = [] }) env)) v
       arrives env bound z v settled =
-          let here = tells m s (λ h w. (held z (At h) ≡ Some w) × NotInStack h) target.params args env homed bound (λ k x to w e q there. (gives z v settled k x to w e q there, bare to (place_is k to q))) in
-          bound_represents m a.labels s z v (represents_less m a.labels z v settled.is) (settled.others.top ∙ g.others.top) (settled.others.next ∙ g.others.next) block env
-          (λ j k w e. let r = here.told j k w e in (r.0, r.1, r.2.0, λ n q. absurd (r.2.1 n q)))
-          (λ at w free there. settled.others.storage at (λ n one. absurd (bare_too (home.Stack n) one n refl)) ∙ (g.others.storage at (λ n one. absurd (bare_too (home.Stack n) one n refl)) ∙ there))
+          let here = tells m s (λ h w. held z (At h) ≡ Some w) target.params args env homed bound (gives z v settled) in
+          let top : z.top ≡ s.top = settled.others.top ∙ g.others.top in
+          bound_represents m a.labels s z v (represents_less m a.labels z v settled.is) top (settled.others.next ∙ g.others.next) block env
+          (λ j k w e. let r = here.told j k w e in (r.0, r.1, r.2, λ n q. let old = stack_word m s n housed place (subst (λ h. has_room s (At h) ≡ true) q r.3) in (old.0, (visible m s (stack_at s n) old.0 old.1).there)))
+          (λ at w free there. elim (search s (roomy s (m.homes ++ convention)) at) [
+            | inl p ↦
+                let first : held y (At (home.Stack p.0)) ≡ Some w = g.keeps (home.Stack p.0) w p.1 (λ q. absurd (no_stack (home.Stack p.0) (convention_registers (home.Stack p.0) q) p.0 refl)) (ap (long_at s.storage) (sym p.2) ∙ there) in
+                let second : held z (At (home.Stack p.0)) ≡ Some w = settled.keeps (home.Stack p.0) w p.1 (λ q. let b = here.bound q.0 p.0 q.1 in free b.0 p.0 b.1 b.2 p.2) first in
+                ap (long_at z.storage) (p.2 ∙ ap (λ (k : ℕ). k + 4 * p.0) (sym top)) ∙ second
+            | inr p ↦ settled.others.storage at (λ n one q. p n one (q ∙ ap (λ (k : ℕ). k + 4 * n) g.others.top)) ∙ (g.others.storage at p ∙ there)
+          ])
+
+      -- the homes of parameters have room
+      places_roomy : (env : Env Word) → pairs_of m s target.params (map (word_of m s) args) ≡ Some env → (k : ℕ) (p : Home) → slice_get (homes_of_params m.homes target) k ≡ Some p → IsOne (roomy s (m.homes ++ convention)) p
+      places_roomy env bound k p e =
+          let rooms = tells m s (λ h w. Unit {0}) target.params args env homed bound (λ i x to w q r there. tt) in
+          let one = place_is k p e in
+          is_roomy s (m.homes ++ convention) p one.0 (get_left m.homes convention one.0 p one.1) (has_place s p (λ n q.
+          let b = rooms.bound k n (e ∙ ap Some q) in
+          let r = rooms.told b.0 (At (home.Stack n)) b.1 b.2 in
+          subst (λ i. has_room s i ≡ true) (sym r.1) r.3))
 
       pub settle_steps : ℕ → ℕ
-      settle_steps n = steps_after a (with_convention m) (m.homes ++ convention) (housed_too m housed) lodged first (fill_steps a (with_convention m) (m.homes ++ convention) (housed_too m housed) lodged given_args (homes_of_params m.homes target) n)
+      settle_steps n = steps_after a (with_convention m) (roomy s (m.homes ++ convention)) (housed_too m housed) (lodged s) first (fill_steps a (with_convention m) (roomy s (m.homes ++ convention)) (housed_too m housed) (lodged s) given_args (homes_of_params m.homes target) n)
 
       pub settles : (n : ℕ) (items : List Item) (Q : State → Type 0) (env : Env Word) → pairs_of m s target.params (map (word_of m s) args) ≡ Some env → Stands a u2 (moved_items first ++ items)
           → ((v : State) → Represents m a.labels (into block (hold_all (record s { env = [] }) env)) v → Stands a v items → Path a n v Q) → Path a (settle_steps n) u2 Q
       unfolding settle_steps given_args
       settles n items Q env bound stands rest =
-          arguments_go a (with_convention m) (m.homes ++ convention) (housed_too m housed) lodged (with_env y again.env) u2 given_args (homes_of_params m.homes target) first again.is (in_place_held y again.env g.place)
-          (λ h one. again.each h one (roomy y h (bare_too h one))) given_usable given_comes (λ k p e. let one = place_is k p e in (one.0, get_left m.homes convention one.0 p one.1)) distinct
+          arguments_go a (with_convention m) (roomy s (m.homes ++ convention)) (housed_too m housed) (lodged s) (with_env y again.env) u2 given_args (homes_of_params m.homes target) first again.is (in_place_held y again.env g.place)
+          (λ h one. let r = of_roomy s (m.homes ++ convention) h one in again.each h r.0 (room_same s y place g.place g.others.top h r.1)) given_usable given_comes (places_roomy env bound) distinct
           (subst (λ ms. DoesAtOnce ms first) (sym (given_moves (m.homes ++ convention) (length m.homes) convention (homes_of_params m.homes target) (λ i h e. get_right m.homes convention i ∙ e))) enters) n items Q
           (subst (λ fs. Stands a u2 (moved_items first ++ (fs ++ items))) (sym (no_fills (m.homes ++ convention) (length m.homes) 7 (homes_of_params m.homes target))) stands)
           (λ z v settled six stands2. rest v (arrives env bound z v settled) stands2)
@@ -370,7 +398,7 @@ module _ (a : Assembly) (m : Setting) (housed : IsHoused m) (bare : (h : Home) �
       pub settle_few : (n : ℕ) → settle_steps n ≤ n + 3 * length (moves_between convention (homes_of_params m.homes target))
       unfolding settle_steps given_args
       settle_few n =
-          let count = steps_many a (with_convention m) (m.homes ++ convention) (housed_too m housed) lodged first (fill_steps a (with_convention m) (m.homes ++ convention) (housed_too m housed) lodged given_args (homes_of_params m.homes target) n) in
-          let none = given_fill a (with_convention m) (m.homes ++ convention) (housed_too m housed) lodged (length m.homes) 7 (homes_of_params m.homes target) n in
+          let count = steps_many a (with_convention m) (roomy s (m.homes ++ convention)) (housed_too m housed) (lodged s) first (fill_steps a (with_convention m) (roomy s (m.homes ++ convention)) (housed_too m housed) (lodged s) given_args (homes_of_params m.homes target) n) in
+          let none = given_fill a (with_convention m) (roomy s (m.homes ++ convention)) (housed_too m housed) (lodged s) (length m.homes) 7 (homes_of_params m.homes target) n in
           let short = enters.few in
           omega (arith, count, none, short)

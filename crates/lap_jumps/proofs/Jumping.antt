@@ -40,14 +40,14 @@ use Rattle.lap_jumps.proofs.Binding.{tells, bound_represents}
 
 -- ---- homes with room
 
-roomy : WordState → List Home → List Home
+pub roomy : WordState → List Home → List Home
 roomy s [] = []
 roomy s (h ∷ homes) = if has_room s (At h) then h ∷ roomy s homes else roomy s homes
 
 one_more : (x : Home) (homes : List Home) (h : Home) → IsOne homes h → IsOne (x ∷ homes) h
 one_more x homes h one = (suc one.0, one.1)
 
-of_roomy : (s : WordState) (homes : List Home) (h : Home) → IsOne (roomy s homes) h → IsOne homes h × (has_room s (At h) ≡ true)
+pub of_roomy : (s : WordState) (homes : List Home) (h : Home) → IsOne (roomy s homes) h → IsOne homes h × (has_room s (At h) ≡ true)
 unfolding roomy
 of_roomy s [] h one = absurd (cc)
 of_roomy s (x ∷ homes) h one = by (has_room s (At x)) refl one (λ q. of_roomy s homes h q)
@@ -57,7 +57,7 @@ of_roomy s (x ∷ homes) h one = by (has_room s (At x)) refl one (λ q. of_roomy
     by true e (suc k, q) rest = let r = rest (k, q) in (one_more x homes h r.0, r.1)
     by false e q rest = let r = rest q in (one_more x homes h r.0, r.1)
 
-is_roomy : (s : WordState) (homes : List Home) (h : Home) (k : ℕ) → slice_get homes k ≡ Some h → has_room s (At h) ≡ true → IsOne (roomy s homes) h
+pub is_roomy : (s : WordState) (homes : List Home) (h : Home) (k : ℕ) → slice_get homes k ≡ Some h → has_room s (At h) ≡ true → IsOne (roomy s homes) h
 unfolding roomy
 is_roomy s [] h k e room = absurd (cc)
 is_roomy s (x ∷ homes) h zero e room =
@@ -69,7 +69,7 @@ is_roomy s (x ∷ homes) h (suc k) e room = by (has_room s (At x)) (is_roomy s h
     by true q = one_more x (roomy s homes) h q
     by false q = q
 
-has_place : (s : WordState) (h : Home) → ((n : ℕ) → h ≡ home.Stack n → has_room s (At (home.Stack n)) ≡ true) → has_room s (At h) ≡ true
+pub has_place : (s : WordState) (h : Home) → ((n : ℕ) → h ≡ home.Stack n → has_room s (At (home.Stack n)) ≡ true) → has_room s (At h) ≡ true
 has_place s (home.D i) f = refl
 has_place s (home.A i) f = refl
 has_place s (home.Static i) f = refl
@@ -84,7 +84,7 @@ param_of homes (v ∷ params) zero h e = (v, refl, some_same e)
 param_of homes (v ∷ params) (suc k) h e = param_of homes params k h e
 
 -- a word of the stack is a home or not
-search : (s : WordState) (homes : List Home) (at : ℕ) → ((n : ℕ) × IsOne homes (home.Stack n) × (at ≡ stack_at s n)) ⊎ ((n : ℕ) → IsOne homes (home.Stack n) → at ≢ stack_at s n)
+pub search : (s : WordState) (homes : List Home) (at : ℕ) → ((n : ℕ) × IsOne homes (home.Stack n) × (at ≡ stack_at s n)) ⊎ ((n : ℕ) → IsOne homes (home.Stack n) → at ≢ stack_at s n)
 search s [] at = inr (λ n one. absurd (cc))
 search s (h ∷ homes) at = by (search s homes at) (first h)
   where

@@ -28,6 +28,7 @@ use Rattle.lap_starts.proofs.Starting.{starts_represented, homes_serve}
 use Rattle.lap_paths.specs.Paths.{Assembly, code, IsAt}
 use Rattle.lap_paths.specs.Housed.{IsHoused}
 use Rattle.lap_blocks.proofs.Blocks.{found, drop_head}
+use Rattle.word_depths.proofs.Starts.{starts_are_deep}
 use Rattle.lap_simulation.specs.Laws.{IsBuilt, sizes_of, EndsLead, EmittedKeeps}
 use Rattle.lap_simulation.proofs.Blocks.{at_start}
 use Rattle.lap_simulation.proofs.Stepping.{Stage, goes, simulates}
@@ -49,7 +50,7 @@ module _ (a : Assembly) (placed : Placed) (heap stack : ℕ) (built : IsBuilt a 
   abbrev boot : State
   boot = boot_of a.bytes (static_bytes placed.words.statics.items a.labels) (slice_index a.labels placed.words.entry) (record { heap = heap; stack = stack })
 
-  housed : IsHoused (placed_in placed (sizes_of heap stack))
+  pub housed : IsHoused (placed_in placed (sizes_of heap stack))
   housed = homes_serve placed (sizes_of heap stack) built.whole (size_small heap built.heap_is) (size_small stack built.stack_is)
 
   at_entry : (block : WordBlock) → slice_get placed.words.blocks.items placed.words.entry ≡ Some block → IsAt a boot placed.words.entry
@@ -67,7 +68,7 @@ module _ (a : Assembly) (placed : Placed) (heap stack : ℕ) (built : IsBuilt a 
         bytes = refl;
       }
 
-  first : Stage a placed heap stack built housed safe ends (start (placed_in placed (sizes_of heap stack))) (start_of boot)
+  pub first : Stage a placed heap stack built housed safe ends (start (placed_in placed (sizes_of heap stack))) (start_of boot)
   first = of_some (slice_get placed.words.blocks.items placed.words.entry) refl built.whole.words.shapes.entry
     where
       of_some : (x : Option WordBlock) → slice_get placed.words.blocks.items placed.words.entry ≡ x → IsSomeAnd x (λ block. block.params ≡ []) → Stage a placed heap stack built housed safe ends (start (placed_in placed (sizes_of heap stack))) (start_of boot)
@@ -82,6 +83,7 @@ module _ (a : Assembly) (placed : Placed) (heap stack : ℕ) (built : IsBuilt a 
             output = refl;
             is = starts_represented placed a heap stack (slice_index a.labels placed.words.entry) built.whole built.heap_is built.stack_is;
             place = start_in_place (placed_in placed (sizes_of heap stack)) (record { heap = size_whole heap built.heap_is; stack = size_whole stack built.stack_is });
+            deep = starts_are_deep.entry placed (sizes_of heap stack) built.whole;
             block = inside.block;
             there = inside.there;
             last = inside.last;

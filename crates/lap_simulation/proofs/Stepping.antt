@@ -2,7 +2,7 @@
 use Rattle.std.specs.Prelude.{IsSomeAnd, option_map}
 use Rattle.std.specs.List.{flat_map}
 use Rattle.std.specs.Option.{option_map_or}
-use Rattle.std.proofs.Common.{◌≡◌, ℕ, zero, suc, ◌+◌, ◌-◌, ◌*◌, ◌/◌, ◌≤◌, List, [], ◌∷◌, ◌++◌, length, drop, Option, Some, None, slice_get, inl, inr, refl, sym, ap, subst, ◌∙◌, arith, append_assoc, append-nil}
+use Rattle.std.proofs.Common.{◌≡◌, ℕ, zero, suc, ◌+◌, ◌-◌, ◌*◌, ◌/◌, ◌≤◌, Bool, List, [], ◌∷◌, ◌++◌, length, drop, Option, Some, None, slice_get, inl, inr, refl, sym, ap, subst, ◌∙◌, arith, append_assoc, append-nil}
 use Rattle.program_runs.specs.Runs.{End, Value, Faulted, Full, Broken}
 use Rattle.program_runs.specs.Keeps.{EndsWithin, IsSafe}
 use Rattle.program_runs.specs.Follows.{after, Machine, Alike, Matched, Simulates}
@@ -19,6 +19,7 @@ use Rattle.word_ir.specs.Effects.{Effect, Binds, Stores, Takes, SetsTop, Puts, T
 use Rattle.word_ir.specs.Step.{changed, moving, done, step, unless_ended, placed_in, placed_run}
 use Rattle.word_ir.specs.Ranges.{IsInPlace}
 use Rattle.word_ir.specs.Whole.{open_blocks}
+use Rattle.word_ir.specs.WholePlaced.{depth_behind}
 use Rattle.word_ir.proofs.Steady.{steps_add}
 use Rattle.word_ir.proofs.Places.{step_in_place}
 use Rattle.parallel_moves.specs.declared.OneMove.{OneMove}
@@ -40,10 +41,14 @@ use Rattle.lap_operations.specs.Comes.{Comes}
 use Rattle.lap_operations.proofs.Lines.{operations_arrive}
 use Rattle.lap_whole.proofs.Lines.{lines_usable, operations_operable}
 use Rattle.lap_whole.proofs.Listed.{Listed, listed_flat, each_listed}
-use Rattle.lap_simulation.specs.Leads.{Arrived, Leads}
+use Rattle.word_depths.specs.Laws.{IsDeep, KeepsDepth, StandsDeep}
+use Rattle.word_depths.proofs.Depths.{lines_keep_depth}
+use Rattle.lap_simulation.specs.Leads.{Arrived, Leads, Told}
 use Rattle.lap_simulation.specs.Laws.{IsBuilt, sizes_of, EndsLead}
 use Rattle.lap_simulation.proofs.Turning.{TurnsTo, op_turns}
 use Rattle.lap_simulation.proofs.Blocks.{at_start}
+use Rattle.lap_simulation.proofs.Left.{value_told, fault_told, full_told}
+use Rattle.lap_simulation.proofs.Deep.{next_deep, exit_deep, entered_deep}
 
 -- the operations from a place on
 drop_at : {X : Type 0} (xs : List X) (k : ℕ) (x : X) → slice_get xs k ≡ Some x → drop k xs ≡ x ∷ drop (k + 1) xs
@@ -66,8 +71,8 @@ nothing_more : (xs : List ℕ) → xs ++ [] ≡ xs
 nothing_more xs = append-nil xs
 
 -- what is told of a state apart from what is held
-abbrev counters : WordState → ℕ × Option End × List ℕ × ℕ × ℕ
-counters s = (s.moves, s.end, s.output, s.block, s.place)
+abbrev counters : WordState → ℕ × Option End × List ℕ × ℕ × ℕ × ℕ
+counters s = (s.moves, s.end, s.output, s.block, s.place, s.top)
 
 hold_counts : (s : WordState) (to : Keeper) (x : Word) → counters (hold s to x) ≡ counters s
 hold_counts s (Own v) x = refl
@@ -102,6 +107,7 @@ module _ (a : Assembly) (placed : Placed) (heap stack : ℕ) (built : IsBuilt a 
     pub output : q.output ≡ s.output
     pub is : Represents m a.labels s q.state
     pub place : IsInPlace m s
+    pub deep : StandsDeep placed (sizes_of heap stack) built.whole s.block s.place s.top
     pub block : WordBlock
     pub there : slice_get placed.words.blocks.items s.block ≡ Some block
     pub last : List OneMove
@@ -117,6 +123,7 @@ module _ (a : Assembly) (placed : Placed) (heap stack : ℕ) (built : IsBuilt a 
     pub stopped : q.end ≡ Some how
     pub alike : end_of a.names how ≡ end
     pub output : q.output ≡ s.output
+    pub told : Told how q.state
 
   pub data Stage (s : WordState) (q : Progress) : Type 0 where
     goes : Going s q → Stage s q
@@ -178,8 +185,8 @@ module _ (a : Assembly) (placed : Placed) (heap stack : ℕ) (built : IsBuilt a 
 
   -- to the next line
   next_line : (s : WordState) (q : Progress) (g : Going s q) (o : WordOp) → slice_get g.block.ops.items s.place ≡ Some o → (n moved : ℕ) (v : WordState) (bytes : List ℕ) → step m s ≡ moving moved v → v.moves ≡ s.moves → n ≤ 13 * moved
-      → v.end ≡ None → v.output ≡ s.output ++ bytes → v.block ≡ s.block → v.place ≡ s.place + 1 → Tells a n q.state bytes None (Behind a m v (rest_items g.block (s.place + 1) g.last)) → Step s q
-  next_line s q g o here n moved v bytes is same few going output block place tells =
+      → v.end ≡ None → v.output ≡ s.output ++ bytes → v.block ≡ s.block → v.place ≡ s.place + 1 → IsDeep m v.top (depth_behind (g.deep).depth (Op o)) → Tells a n q.state bytes None (Behind a m v (rest_items g.block (s.place + 1) g.last)) → Step s q
+  next_line s q g o here n moved v bytes is same few going output block place deep tells =
       matched_by s q g n moved v bytes None (Behind a m v (rest_items g.block (s.place + 1) g.last)) is same few tells tells.there.0.next
       (goes (record {
         count = suc g.count;
@@ -189,6 +196,9 @@ module _ (a : Assembly) (placed : Placed) (heap stack : ℕ) (built : IsBuilt a 
         output = ap (λ l. l ++ bytes) g.output ∙ sym output;
         is = represents_moving moved v tells.to tells.there.0;
         place = in_place s q g (moving moved v) is;
+        deep =
+            let next = next_deep a placed heap stack built s g.block g.there g.deep o here v.top deep in
+            subst (λ b. StandsDeep placed (sizes_of heap stack) built.whole b v.place v.top) (sym block) (subst (λ k. StandsDeep placed (sizes_of heap stack) built.whole s.block k v.top) (sym place) next);
         block = g.block;
         there = ap (slice_get placed.words.blocks.items) block ∙ g.there;
         last = g.last;
@@ -199,8 +209,8 @@ module _ (a : Assembly) (placed : Placed) (heap stack : ℕ) (built : IsBuilt a 
 
   -- to the start of a block
   next_block : (s : WordState) (q : Progress) (g : Going s q) (b n moved : ℕ) (v : WordState) → step m s ≡ moving moved v → v.moves ≡ s.moves → n ≤ 13 * moved → v.end ≡ None → v.output ≡ s.output → v.block ≡ b → v.place ≡ 0
-      → Tells a n q.state [] None (Arrived a placed (sizes_of heap stack) v b) → Step s q
-  next_block s q g b n moved v is same few going output block place tells =
+      → StandsDeep placed (sizes_of heap stack) built.whole b 0 v.top → Tells a n q.state [] None (Arrived a placed (sizes_of heap stack) v b) → Step s q
+  next_block s q g b n moved v is same few going output block place deep tells =
       let there = tells.there.1 in
       matched_by s q g n moved v [] None (Arrived a placed (sizes_of heap stack) v b) is same few tells tells.there.0.next
       (goes (record {
@@ -211,6 +221,7 @@ module _ (a : Assembly) (placed : Placed) (heap stack : ℕ) (built : IsBuilt a 
         output = nothing_more q.output ∙ g.output ∙ sym output;
         is = represents_moving moved v tells.to tells.there.0;
         place = in_place s q g (moving moved v) is;
+        deep = subst (λ c. StandsDeep placed (sizes_of heap stack) built.whole c v.place v.top) (sym block) (subst (λ k. StandsDeep placed (sizes_of heap stack) built.whole b k v.top) (sym place) deep);
         block = there.block;
         there = ap (slice_get placed.words.blocks.items) block ∙ there.there;
         last = there.last;
@@ -220,8 +231,8 @@ module _ (a : Assembly) (placed : Placed) (heap stack : ℕ) (built : IsBuilt a 
       }))
 
   -- to the end of the run
-  last_step : (s : WordState) (q : Progress) (g : Going s q) (e : End) (n moved : ℕ) → step m s ≡ moving moved (record s { end = Some e }) → n ≤ 13 * moved → EndsSo a s q.state n e → Step s q
-  last_step s q g e n moved is few so =
+  last_step : (s : WordState) (q : Progress) (g : Going s q) (e : End) (n moved : ℕ) → step m s ≡ moving moved (record s { end = Some e }) → n ≤ 13 * moved → (so : EndsSo a s q.state n e) → Told so.0 so.2.to → Step s q
+  last_step s q g e n moved is few so told =
       matched_by s q g n moved (record s { end = Some e }) [] (Some so.0) (λ u. next_of u ≡ s.next) is refl few so.2 so.2.there
       (over (record {
         end = e;
@@ -230,6 +241,7 @@ module _ (a : Assembly) (placed : Placed) (heap stack : ℕ) (built : IsBuilt a 
         stopped = refl;
         alike = so.1;
         output = nothing_more q.output ∙ g.output;
+        told = told;
       }))
 
   -- a safe run doesn't break
@@ -259,20 +271,21 @@ module _ (a : Assembly) (placed : Placed) (heap stack : ℕ) (built : IsBuilt a 
       of_some None h = absurd h
       of_some (Some block) h = (block, refl, h)
 
-  op_step : (s : WordState) (q : Progress) (g : Going s q) (o : WordOp) → slice_get g.block.ops.items s.place ≡ Some o → (e : Effect) → step m s ≡ moving (moves_of (Op o)) (changed s e) → TurnsTo (op_exits o) e
-      → Comes a m s q.state (rest_items g.block (s.place + 1) g.last) (13 * moves_of (Op o)) e → Step s q
-  op_step s q g o here (Binds to x) is turns comes =
+  op_step : (s : WordState) (q : Progress) (g : Going s q) (o : WordOp) → slice_get g.block.ops.items s.place ≡ Some o → (e : Effect) → step m s ≡ moving (moves_of (Op o)) (changed s e) → TurnsTo (op_exits o) e → KeepsDepth m s (g.deep).depth (Op o) e
+      → ((region : Bool) (asked left n : ℕ) → e ≡ Ends (Full region asked left) → (so : EndsSo a s q.state n (Full region asked left)) → Told so.0 so.2.to) → Comes a m s q.state (rest_items g.block (s.place + 1) g.last) (13 * moves_of (Op o)) e → Step s q
+  op_step s q g o here (Binds to x) is turns kept full comes =
       let k = hold_counts s to x in
-      next_line s q g o here (13 * moves_of (Op o)) (moves_of (Op o)) (changed s (Binds to x)) [] is (ap (λ c. c.0) k) (omega arith) (ap (λ c. c.1) k ∙ g.going) (ap (λ c. c.2) k ∙ sym (nothing_more s.output)) (ap (λ c. c.3) k) (ap (λ c. c.4 + 1) k) comes
-  op_step s q g o here (Stores at x) is turns comes = next_line s q g o here (13 * moves_of (Op o)) (moves_of (Op o)) (changed s (Stores at x)) [] is refl (omega arith) g.going (sym (nothing_more s.output)) refl refl comes
-  op_step s q g o here (Takes to bytes) is turns comes =
+      next_line s q g o here (13 * moves_of (Op o)) (moves_of (Op o)) (changed s (Binds to x)) [] is (ap (λ c. c.0) k) (omega arith) (ap (λ c. c.1) k ∙ g.going) (ap (λ c. c.2) k ∙ sym (nothing_more s.output)) (ap (λ c. c.3) k) (ap (λ c. c.4 + 1) k) (subst (λ top. IsDeep m top (depth_behind (g.deep).depth (Op o))) (sym (ap (λ c. c.5) k)) kept) comes
+  op_step s q g o here (Stores at x) is turns kept full comes = next_line s q g o here (13 * moves_of (Op o)) (moves_of (Op o)) (changed s (Stores at x)) [] is refl (omega arith) g.going (sym (nothing_more s.output)) refl refl kept comes
+  op_step s q g o here (Takes to bytes) is turns kept full comes =
       let k = hold_counts s to (Number s.next) in
-      next_line s q g o here (13 * moves_of (Op o)) (moves_of (Op o)) (changed s (Takes to bytes)) [] is (ap (λ c. c.0) k) (omega arith) (ap (λ c. c.1) k ∙ g.going) (ap (λ c. c.2) k ∙ sym (nothing_more s.output)) (ap (λ c. c.3) k) (ap (λ c. c.4 + 1) k) comes
-  op_step s q g o here (SetsTop top) is turns comes = next_line s q g o here (13 * moves_of (Op o)) (moves_of (Op o)) (changed s (SetsTop top)) [] is refl (omega arith) g.going (sym (nothing_more s.output)) refl refl comes
-  op_step s q g o here (Puts bytes) is turns comes = next_line s q g o here (13 * moves_of (Op o)) (moves_of (Op o)) (changed s (Puts bytes)) bytes is refl (omega arith) g.going refl refl refl comes
-  op_step s q g o here (Turns b) is turns comes =
+      next_line s q g o here (13 * moves_of (Op o)) (moves_of (Op o)) (changed s (Takes to bytes)) [] is (ap (λ c. c.0) k) (omega arith) (ap (λ c. c.1) k ∙ g.going) (ap (λ c. c.2) k ∙ sym (nothing_more s.output)) (ap (λ c. c.3) k) (ap (λ c. c.4 + 1) k) (subst (λ top. IsDeep m top (depth_behind (g.deep).depth (Op o))) (sym (ap (λ c. c.5) k)) kept) comes
+  op_step s q g o here (SetsTop top) is turns kept full comes = next_line s q g o here (13 * moves_of (Op o)) (moves_of (Op o)) (changed s (SetsTop top)) [] is refl (omega arith) g.going (sym (nothing_more s.output)) refl refl kept comes
+  op_step s q g o here (Puts bytes) is turns kept full comes = next_line s q g o here (13 * moves_of (Op o)) (moves_of (Op o)) (changed s (Puts bytes)) bytes is refl (omega arith) g.going refl refl refl kept comes
+  op_step s q g o here (Turns b) is turns kept full comes =
       let open_block = open_start s q g o here b turns in
       next_block s q g b (13 * moves_of (Op o)) (moves_of (Op o)) (changed s (Turns b)) is refl (omega arith) g.going refl refl refl
+      (exit_deep a placed heap stack built s g.block g.there g.deep (Op o) (ap (λ x. option_map_or Op x (Last g.block.last)) here) b open_block.0 (inl kept) open_block.1)
       (record {
         count = comes.count;
         few = comes.few;
@@ -282,33 +295,40 @@ module _ (a : Assembly) (placed : Placed) (heap stack : ℕ) (built : IsBuilt a 
         costs = comes.costs;
         there = (comes.there.0, at_start a placed b open_block.0 comes.to built.emitted open_block.1 open_block.2 comes.there.1);
       })
-  op_step s q g o here (Enters b env) is turns comes = absurd turns
-  op_step s q g o here (Ends (Value shown)) is turns comes = last_step s q g (Value shown) (13 * moves_of (Op o)) (moves_of (Op o)) is (omega arith) comes
-  op_step s q g o here (Ends (Faulted fault)) is turns comes = last_step s q g (Faulted fault) (13 * moves_of (Op o)) (moves_of (Op o)) is (omega arith) comes
-  op_step s q g o here (Ends (Full stack asked left)) is turns comes = last_step s q g (Full stack asked left) (13 * moves_of (Op o)) (moves_of (Op o)) is (omega arith) comes
-  op_step s q g o here (Ends Broken) is turns comes = absurd (never_breaks s q g (moves_of (Op o)) is)
-
-  -- ---- ends
-
-  end_step : (s : WordState) (q : Progress) (g : Going s q) (moved : ℕ) (e : Effect) → step m s ≡ moving moved (changed s e) → Leads a placed (sizes_of heap stack) s q.state (13 * moved) e → Step s q
-  end_step s q g moved (Turns b) is leads = next_block s q g b (13 * moved) moved (changed s (Turns b)) is refl (omega arith) g.going refl refl refl leads
-  end_step s q g moved (Enters b env) is leads =
-      let k = hold_all_counts (record s { env = [] }) env in
-      next_block s q g b (13 * moved) moved (changed s (Enters b env)) is (ap (λ c. c.0) k) (omega arith) (ap (λ c. c.1) k ∙ g.going) (ap (λ c. c.2) k) refl refl leads
-  end_step s q g moved (Ends Broken) is leads = absurd (never_breaks s q g moved is)
-  end_step s q g moved (Ends (Value shown)) is leads = absurd leads
-  end_step s q g moved (Ends (Faulted fault)) is leads = absurd leads
-  end_step s q g moved (Ends (Full stack asked left)) is leads = absurd leads
-  end_step s q g moved (Binds to x) is leads = absurd leads
-  end_step s q g moved (Stores at x) is leads = absurd leads
-  end_step s q g moved (Takes to bytes) is leads = absurd leads
-  end_step s q g moved (SetsTop top) is leads = absurd leads
-  end_step s q g moved (Puts bytes) is leads = absurd leads
-
-  -- ---- all lines
+  op_step s q g o here (Enters b env) is turns kept full comes = absurd turns
+  op_step s q g o here (Ends (Value shown)) is turns kept full comes = last_step s q g (Value shown) (13 * moves_of (Op o)) (moves_of (Op o)) is (omega arith) comes (value_told a.names comes.0 shown comes.2.to comes.1)
+  op_step s q g o here (Ends (Faulted fault)) is turns kept full comes = last_step s q g (Faulted fault) (13 * moves_of (Op o)) (moves_of (Op o)) is (omega arith) comes (fault_told a.names comes.0 fault comes.2.to comes.1)
+  op_step s q g o here (Ends (Full region asked left)) is turns kept full comes =
+      last_step s q g (Full region asked left) (13 * moves_of (Op o)) (moves_of (Op o)) is (omega arith) comes (full region asked left (13 * moves_of (Op o)) refl comes)
+  op_step s q g o here (Ends Broken) is turns kept full comes = absurd (never_breaks s q g (moves_of (Op o)) is)
 
   line_there : (s : WordState) (q : Progress) (g : Going s q) (o : Option WordOp) → slice_get g.block.ops.items s.place ≡ o → line_at m.words s.block s.place ≡ Some (option_map_or Op o (Last g.block.last))
   line_there s q g o e = ap (λ x. option_map (λ b. line_in b s.place) x) g.there ∙ ap (λ x. Some (option_map_or Op x (Last g.block.last))) e
+
+  -- ---- ends
+
+  end_step : (s : WordState) (q : Progress) (g : Going s q) → slice_get g.block.ops.items s.place ≡ None → (moved : ℕ) (e : Effect) → step m s ≡ moving moved (changed s e) → KeepsDepth m s (g.deep).depth (Last g.block.last) e
+      → Leads a placed (sizes_of heap stack) s q.state (13 * moved) e → Step s q
+  end_step s q g none moved (Turns b) is kept leads =
+      next_block s q g b (13 * moved) moved (changed s (Turns b)) is refl (omega arith) g.going refl refl refl
+      (exit_deep a placed heap stack built s g.block g.there g.deep (Last g.block.last) (ap (λ x. option_map_or Op x (Last g.block.last)) none) b (leads.there.1).block (inl kept) (leads.there.1).there) leads
+  end_step s q g none moved (Enters b env) is kept leads =
+      let k = hold_all_counts (record s { env = [] }) env in
+      let deep =
+      entered_deep a placed heap stack built s g.block g.there g.deep housed g.place q.state g.is (Last g.block.last) (ap (λ x. option_map_or Op x (Last g.block.last)) none) (line_there s q g None none) b (leads.there.1).block (leads.there.1).there kept in
+      next_block s q g b (13 * moved) moved (changed s (Enters b env)) is (ap (λ c. c.0) k) (omega arith) (ap (λ c. c.1) k ∙ g.going) (ap (λ c. c.2) k) refl refl
+      (subst (StandsDeep placed (sizes_of heap stack) built.whole b 0) (sym (ap (λ c. c.5) k)) deep) leads
+  end_step s q g none moved (Ends Broken) is kept leads = absurd (never_breaks s q g moved is)
+  end_step s q g none moved (Ends (Value shown)) is kept leads = absurd leads
+  end_step s q g none moved (Ends (Faulted fault)) is kept leads = absurd leads
+  end_step s q g none moved (Ends (Full stack asked left)) is kept leads = absurd leads
+  end_step s q g none moved (Binds to x) is kept leads = absurd leads
+  end_step s q g none moved (Stores at x) is kept leads = absurd leads
+  end_step s q g none moved (Takes to bytes) is kept leads = absurd leads
+  end_step s q g none moved (SetsTop top) is kept leads = absurd leads
+  end_step s q g none moved (Puts bytes) is kept leads = absurd leads
+
+  -- ---- all lines
 
   matched : (s : WordState) (q : Progress) → Going s q → Step s q
   matched s q g = by_line (slice_get g.block.ops.items s.place) refl
@@ -321,13 +341,14 @@ module _ (a : Assembly) (placed : Placed) (heap stack : ℕ) (built : IsBuilt a 
           let rest = rest_items g.block (s.place + 1) g.last in
           let stands = subst (Stands a q.state) (ap (λ l. flat_map (op_items placed.at.items) l ++ end_items placed g.block.last g.last) (drop_at g.block.ops.items s.place o e)
           ∙ append_assoc (op_items placed.at.items o) (flat_map (op_items placed.at.items) (drop (s.place + 1) g.block.ops.items)) (end_items placed g.block.last g.last)) g.stands in
-          op_step s q g o e (op_effect m s o) (step_is s (Op o) g.going line) (op_turns m s o) (operations_arrive a m s q.state rest o built.names housed g.place g.is operable usable.shaped stands)
+          op_step s q g o e (op_effect m s o) (step_is s (Op o) g.going line) (op_turns m s o) (lines_keep_depth m s (g.deep).depth (Op o) g.place (g.deep).deep)
+          (λ region asked left n effect so. full_told a m s q.state o rest region asked left n housed g.place g.is operable.operands usable.shaped stands effect so) (operations_arrive a m s q.state rest o built.names housed g.place g.is operable usable.shaped stands)
       by_line None e =
           let line = line_there s q g None e in
           let at_end = past g.block.ops.items s.place e g.inside in
           let stands = subst (λ l. Stands a q.state (flat_map (op_items placed.at.items) l ++ end_items placed g.block.last g.last)) at_end.1 g.stands in
-          end_step s q g (moves_of (Last g.block.last)) (end_effect m s g.block.last) (step_is s (Last g.block.last) g.going line)
-          (ends a placed heap stack built g.count s q.state g.block g.last g.reached g.going g.there at_end.0 g.place g.is g.leaves stands)
+          end_step s q g e (moves_of (Last g.block.last)) (end_effect m s g.block.last) (step_is s (Last g.block.last) g.going line) (lines_keep_depth m s (g.deep).depth (Last g.block.last) g.place (g.deep).deep)
+          (ends a placed heap stack built g.count s q.state g.block g.last g.reached g.going g.there at_end.0 g.place g.deep g.is g.leaves stands)
 
   pub simulates : Simulates words items Stage (λ s. 0) (λ s q. 0) 13
   simulates = record {

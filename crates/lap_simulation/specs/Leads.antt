@@ -1,5 +1,5 @@
 -- Where the items of a block's end lead to.
-use Rattle.std.specs.Prelude.{◌≡◌, ℕ, List, [], ◌++◌, slice_get, Some, None}
+use Rattle.std.specs.Prelude.{◌≡◌, ℕ, Bool, List, [], ◌++◌, slice_get, Some, None}
 use Rattle.program_runs.specs.Runs.{Value, Faulted, Full, Broken}
 use Rattle.word_ir.specs.declared.placed.Placed.{Placed}
 use Rattle.word_ir.specs.declared.words.WordBlock.{WordBlock}
@@ -9,12 +9,15 @@ use Rattle.word_ir.specs.Effects.{Effect, Binds, Stores, Takes, SetsTop, Puts, T
 use Rattle.word_ir.specs.Step.{changed, placed_in}
 use Rattle.parallel_moves.specs.declared.OneMove.{OneMove}
 use Rattle.m68020_step.specs.Step.{State}
+use Rattle.machine_services.specs.declared.exit.Exit.{Exit}
+use Rattle.machine_services.specs.declared.exit.Exit.TheVariants as exit
 use Rattle.lap_items.specs.Moves.{DoesAtOnce}
 use Rattle.lap_items.specs.Ends.{end_moves, end_items}
 use Rattle.lap_items.specs.Program.{ops_items}
 use Rattle.lap_runs.specs.Represents.{Represents}
 use Rattle.lap_paths.specs.Paths.{Assembly, Stands}
 use Rattle.lap_services.specs.Tells.{Tells}
+use Rattle.lap_room.specs.Laws.{left_in}
 
 -- a state at the operations of a block, behind the moves of its parameters
 pub record IsInBlock (a : Assembly) (placed : Placed) (b : ℕ) (u : State) : Type 0 where
@@ -41,3 +44,7 @@ Leads a placed sizes s t n (Stores at x) = ⊥
 Leads a placed sizes s t n (Takes to bytes) = ⊥
 Leads a placed sizes s t n (SetsTop top) = ⊥
 Leads a placed sizes s t n (Puts bytes) = ⊥
+
+-- Where a run has ended for want of room, what is left is what the machine's registers say there.
+abbrev pub Told : Exit → State → Type 0
+Told how u = (stack : Bool) (asked left : ℕ) → how ≡ exit.Full stack asked left → left ≡ left_in stack u
