@@ -5,3 +5,5 @@ pub mod Unfolds
 pub mod LiveLemmas
 pub mod Fewness
 pub mod NeedLemmas
+pub mod FewNeeded
+pub mod FewInside
