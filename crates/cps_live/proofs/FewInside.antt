@@ -25,7 +25,7 @@ use Rattle.cps_live.proofs.FewNeeded.{needed_is_reached, stands}
 use Rattle.cps_reach.proofs.Members.{In, each_there, in_right, in_flat, in_found, at_in}
 use Rattle.cps_reach.proofs.Rounds.{free_in_rounds, in_filtered}
 
-each_at : (P : ℕ → Type 0) (ps : List Part) → AllByRecursion P (places_of ps) → AllByRecursion (λ p. P p.at) ps
+pub each_at : (P : ℕ → Type 0) (ps : List Part) → AllByRecursion P (places_of ps) → AllByRecursion (λ p. P p.at) ps
 each_at P [] h = tt
 each_at P (p ∷ ps) h = (h.0, each_at P ps h.1)
 

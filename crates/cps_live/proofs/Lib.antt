@@ -7,3 +7,4 @@ pub mod Fewness
 pub mod NeedLemmas
 pub mod FewNeeded
 pub mod FewInside
+pub mod JoinsFirst

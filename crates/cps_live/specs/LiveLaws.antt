@@ -1,15 +1,15 @@
 -- How many variables are live and needed.
-use Rattle.std.specs.Prelude.{◌≡◌, ◌≢◌, ℕ, ◌+◌, ◌≤◌, true, false, List, length, All, AllPairs, Contains, Some, IsSomeAnd, slice_get}
+use Rattle.std.specs.Prelude.{◌≡◌, ◌≢◌, ℕ, ◌+◌, ◌≤◌, true, false, List, [], ◌∷◌, length, All, AllPairs, Contains, Some, IsSomeAnd, slice_get}
 use Rattle.cps_ir.specs.declared.terms.Lam.{Lam}
 use Rattle.cps_ir.specs.declared.terms.Term.{Term}
 use Rattle.cps_ir.specs.declared.terms.Cps.{Cps}
 use Rattle.cps_ir.specs.Parts.{lambda_at, walked, reached_terms, reached_lams, lam_binders}
-use Rattle.cps_ir.specs.Reaches.{is_in, methods_of}
+use Rattle.cps_ir.specs.Reaches.{is_in, free_at, methods_of}
 use Rattle.cps_ir.specs.Whole.{IsWhole}
 use Rattle.cps_known.specs.declared.liveness.Live.{Live}
 use Rattle.cps_known.specs.LiveVariables.{IsLive}
 use Rattle.cps_live.specs.declared.needs.Needs.{Needs}
-use Rattle.cps_live.specs.Needs.{HasNeeds, IsNeeded}
+use Rattle.cps_live.specs.Needs.{HasNeeds, IsJoin, IsNeeded}
 
 -- at most two more than the unit's largest form has nodes
 abbrev pub FewAreLive : Type 0
@@ -41,3 +41,11 @@ MethodsNeedFew cps term = (xs : List ℕ) → AllPairs (λ x y. x ≢ y) xs → 
 
 abbrev pub ObjectsNeedFew : Type 0
 ObjectsNeedFew = (cps : Cps) → IsWhole cps → All (MethodsNeedFew cps) (reached_terms cps)
+
+-- Of places in order: where the k of a Join is free in the term at one, the Join stands before it.
+abbrev pub JoinsAreBefore : Cps → List ℕ → List ℕ → Type 0
+JoinsAreBefore cps before [] = Unit {0}
+JoinsAreBefore cps before (t ∷ ts) = ((k param body : ℕ) (j : IsJoin cps k param body) → is_in (free_at cps t) k ≡ true → is_in before j.at ≡ true) × JoinsAreBefore cps (t ∷ before) ts
+
+abbrev pub JoinsComeFirst : Type 0
+JoinsComeFirst = (cps : Cps) → IsWhole cps → JoinsAreBefore cps [] (walked cps)
