@@ -79,7 +79,16 @@ pub(crate) fn await_return(
         Cont::Var(j) => match site.way(j) {
             Way::Meets { join, place } => {
                 let outside = site.outside(alloc, place)?;
-                let waiting = frame(alloc, tables, work, scope, join.param, join.body, outside, Some(join.block))?;
+                let waiting = frame(
+                    alloc,
+                    tables,
+                    work,
+                    scope,
+                    join.param,
+                    join.body,
+                    outside,
+                    Some(join.block),
+                )?;
                 Ok(waiting)
             }
             Way::Leaves | Way::Nowhere => Err(Memory),
