@@ -68,7 +68,7 @@ arms_above n (For.MethodOf l kept ∷ rs) = more_above n (arms_from (suc n) rs) 
 arms_above n (For.Begins vars site term ∷ rs) = more_above n (arms_from (suc n) rs) (arms_above (suc n) rs)
 arms_above n (For.ArmOf vars site term ∷ rs) = (omega arith, more_above n (arms_from (suc n) rs) (arms_above (suc n) rs))
 arms_above n (For.PassesOn ∷ rs) = more_above n (arms_from (suc n) rs) (arms_above (suc n) rs)
-arms_above n (For.Resumes param body site ∷ rs) = more_above n (arms_from (suc n) rs) (arms_above (suc n) rs)
+arms_above n (For.Resumes param body site join ∷ rs) = more_above n (arms_from (suc n) rs) (arms_above (suc n) rs)
 
 pub arms_distinct : (n : ℕ) (rs : List Request) → AreDistinct (arms_from n rs)
 arms_distinct n [] = tt
@@ -77,7 +77,7 @@ arms_distinct n (For.MethodOf l kept ∷ rs) = arms_distinct (suc n) rs
 arms_distinct n (For.Begins vars site term ∷ rs) = arms_distinct (suc n) rs
 arms_distinct n (For.ArmOf vars site term ∷ rs) = (above_lack n (arms_from (suc n) rs) (arms_above (suc n) rs), arms_distinct (suc n) rs)
 arms_distinct n (For.PassesOn ∷ rs) = arms_distinct (suc n) rs
-arms_distinct n (For.Resumes param body site ∷ rs) = arms_distinct (suc n) rs
+arms_distinct n (For.Resumes param body site join ∷ rs) = arms_distinct (suc n) rs
 
 module _ (w : Tables) (c : Context) (t : ℕ) where
   next_place : (n k : ℕ) (xs : List ℕ) → IsIn (suc n + k) xs → IsIn (n + suc k) xs
@@ -91,10 +91,10 @@ module _ (w : Tables) (c : Context) (t : ℕ) where
   arm_listed n zero (For.Begins vars site term ∷ rs) e = cc
   arm_listed n zero (For.ArmOf vars site term ∷ rs) e = subst (λ m. IsIn m (n ∷ arms_from (suc n) rs)) (omega arith) (first n (arms_from (suc n) rs))
   arm_listed n zero (For.PassesOn ∷ rs) e = cc
-  arm_listed n zero (For.Resumes param body site ∷ rs) e = cc
+  arm_listed n zero (For.Resumes param body site join ∷ rs) e = cc
   arm_listed n (suc k) (For.CodeOf l ∷ rs) e = next_place n k (arms_from (suc n) rs) (arm_listed (suc n) k rs e)
   arm_listed n (suc k) (For.MethodOf l kept ∷ rs) e = next_place n k (arms_from (suc n) rs) (arm_listed (suc n) k rs e)
   arm_listed n (suc k) (For.Begins vars site term ∷ rs) e = next_place n k (arms_from (suc n) rs) (arm_listed (suc n) k rs e)
   arm_listed n (suc k) (For.ArmOf vars site term ∷ rs) e = later (n + suc k) n (arms_from (suc n) rs) (next_place n k (arms_from (suc n) rs) (arm_listed (suc n) k rs e))
   arm_listed n (suc k) (For.PassesOn ∷ rs) e = next_place n k (arms_from (suc n) rs) (arm_listed (suc n) k rs e)
-  arm_listed n (suc k) (For.Resumes param body site ∷ rs) e = next_place n k (arms_from (suc n) rs) (arm_listed (suc n) k rs e)
+  arm_listed n (suc k) (For.Resumes param body site join ∷ rs) e = next_place n k (arms_from (suc n) rs) (arm_listed (suc n) k rs e)

@@ -1,5 +1,5 @@
 -- Lines of terms, and blocks.
-use Rattle.std.proofs.Common.{◌≡◌, ℕ, zero, suc, ◌+◌, ◌<◌, ◌≤◌, ◌==◌, false, ◌||◌, List, [], ◌∷◌, ◌++◌, length, get_or, slice_get, Some, None, refl, sym, ap, subst, ◌∙◌, arith, append_assoc}
+use Rattle.std.proofs.Common.{◌≡◌, ℕ, zero, suc, ◌+◌, ◌<◌, ◌≤◌, ◌==◌, false, ◌||◌, List, [], ◌∷◌, ◌++◌, length, get_or, slice_get, Option, Some, None, refl, sym, ap, subst, ◌∙◌, arith, append_assoc}
 use Rattle.std.proofs.lemmas.List.{append-nil, length-map, map-append}
 use Rattle.std.proofs.lemmas.Option.{slice_get_read}
 use Rattle.t_base.specs.declared.basics.Var.{Var}
@@ -10,7 +10,7 @@ use Rattle.frame_ir.specs.declared.forms.FrameOp.TheVariants as Op
 use Rattle.frame_ir.specs.declared.forms.FrameEnd.{FrameEnd}
 use Rattle.frame_ir.specs.declared.forms.Block.{Block}
 use Rattle.layout_relation.specs.Contexts.{IsUnused, IsUnneeded, OwnExit, Begins, paired}
-use Rattle.layout_relation.specs.Laid.{Lays, lays, AreDistinct, numbers, Fetches, fetches_none, fetches_one, goes_here, AreHeld, IsFor, variables}
+use Rattle.layout_relation.specs.Laid.{Lays, lays, AreDistinct, numbers, Fetches, fetches_none, fetches_one, GoesOn, goes_here, AreHeld, IsFor, variables}
 use Rattle.cps_ir.specs.declared.terms.Lam.{Lam}
 use Rattle.frame_ir.specs.declared.forms.FrameEnd.TheVariants as Last
 use Rattle.std.specs.List.{AllByRecursion}
@@ -21,8 +21,9 @@ use Rattle.layout_tables.specs.declared.lines.Line.{Line}
 use Rattle.layout_tables.specs.declared.lines.Step.TheVariants.{Next, Done}
 use Rattle.layout_tables.specs.Around.{Around}
 use Rattle.layout_tables.specs.Sketches.{Scoped, Ever, Grows, AreBelow, context_at, context_of, sketch_of, counted, needs_behind, term_needs, is_celled, exits_at, lam_needs, purpose_of}
-use Rattle.closure_layout.specs.Blocks.{IsStep, IsLaidFrom, IsBlockFor, IsOpened, IsFetched, IsCallable, binds_of}
+use Rattle.closure_layout.specs.Blocks.{IsStep, IsLaidFrom, IsGoneFrom, IsBlockFor, IsOpened, IsFetched, IsCallable, binds_of}
 use Rattle.closure_layout.specs.declared.blocks.OpenScope.{OpenScope}
+use Rattle.layout_steps.specs.Steps.{Ends}
 use Rattle.layout_tables.proofs.Basics.{not_behind}
 use Rattle.layout_relation.proofs.Scopes.{eqb_same}
 use Rattle.layout_tables.proofs.Growing.{grows_more, grows_same, later}
@@ -78,6 +79,12 @@ module _ (cps : Cps) (w : Tables) where
     lays = λ ps ts f g. later w work new (λ v. (zs : List FrameOp) (end : FrameEnd) → Lays cps v (context_of w line) place zs end → Lays cps v (context_of w before) start (o.made ++ zs) end) s.laid.leads.grows o.lays ps ts f g (s.laid.made ++ []) last
         (lays (context_of w line) place s.term (s.laid.made ++ []) last s.is (s.laid.leads.reaches ps ts f g));
   }
+
+  pub gone_here : (old new : Work) (before after : Line) (t : ℕ) (last : FrameEnd) → IsLaidFrom cps w old new before after t last → IsGoneFrom cps w old new before after t last
+  gone_here old new before after t last l = record { made = l.made; ops = l.ops; grows = l.grows; adds = l.adds; goes = λ ps ts f g. goes_here (context_of w before) t l.made last (l.lays ps ts f g) }
+
+  pub gone_to : (k : Work) (line : Line) (t : ℕ) (last : FrameEnd) → Ends w k k last (λ v. GoesOn cps v (context_of w line) t [] last) → IsGoneFrom cps w k k line line t last
+  gone_to k line t last e = record { made = []; ops = sym (append-nil line.ops.items); grows = e.grows; adds = e.adds; goes = e.ever }
 
   pub arm_fits : (old new : Work) (before after : Line) (vars : Scoped) (a : Around) (t : ℕ) (b : Block) → before.ops.items ≡ [] → before.scope ≡ vars → before.site ≡ a → b.params ≡ [] → b.ops ≡ after.ops → IsLaidFrom cps w old new before after t b.last
       → IsBlockFor cps w old new (For.ArmOf vars a t) b
@@ -175,10 +182,10 @@ module _ (cps : Cps) (w : Tables) where
     };
   }
 
-  pub return_fits : (old one two three new : Work) (before after : Line) (param value : Var) (body : ℕ) (a : Around) (needs : List Var) (held : Scoped) (gets : List FrameOp) (b : Block) → numbers needs ≡ needs_behind w param body → is_celled w param.0 ≡ false → IsUnneeded (exits_at w a) param.0
+  pub return_fits : (old one two three new : Work) (before after : Line) (param value : Var) (body : ℕ) (a : Around) (join : Option ℕ) (needs : List Var) (held : Scoped) (gets : List FrameOp) (b : Block) → numbers needs ≡ needs_behind w param body → is_celled w param.0 ≡ false → IsUnneeded (exits_at w a) param.0
       → length needs ≤ cps.shared.size + 2 → value.0 ≡ old.next → one.next ≡ old.next + 1 → one.requests ≡ old.requests → one.templates ≡ old.templates → IsFetched one two ((param.0, value.0) ∷ []) held [] gets needs None
-      → before.ops.items ≡ gets ++ Op.Pop ∷ [] → before.scope ≡ held → before.site ≡ a → b.params ≡ value ∷ [] → b.ops ≡ after.ops → IsLaidFrom cps w two new before after body b.last → IsBlockFor cps w old new (For.Resumes param body a) b
-  return_fits old one two three new before after param value body a needs held gets b same plain unneeded few is next rs ts f popped scope site takes ops l = record {
+      → before.ops.items ≡ gets ++ Op.Pop ∷ [] → before.scope ≡ held → before.site ≡ a → b.params ≡ value ∷ [] → b.ops ≡ after.ops → IsGoneFrom cps w two new before after body b.last → IsBlockFor cps w old new (For.Resumes param body a join) b
+  return_fits old one two three new before after param value body a join needs held gets b same plain unneeded few is next rs ts f popped scope site takes ops l = record {
     grows = grows_more w old two new (grows_same w old two (f.requests ∙ rs) (f.templates ∙ ts) (let n = f.next in omega (arith, n, next))) l.grows;
     adds = block_adds old one new b (value ∷ []) (f.made ++ Op.Pop ∷ l.made) takes
         (ap (λ (o : _). o.items) ops ∙ l.ops ∙ ap (λ zs. zs ++ l.made) popped ∙ append_assoc gets (Op.Pop ∷ []) l.made ∙ ap (λ zs. zs ++ Op.Pop ∷ l.made) f.ops)
@@ -194,8 +201,7 @@ module _ (cps : Cps) (w : Tables) where
       small = let e = sym (length-map needs (λ x. x.0)) ∙ ap length same in omega (arith, e, few);
       fetches = subst (λ zs. Fetches (λ y slot. Op.FrameGet y slot) value.0 (needs_behind w param body) ((param.0, value.0) ∷ []) held zs) (sym (f.ops)) (subst (λ ns. Fetches (λ y slot. Op.FrameGet y slot) value.0 ns ((param.0, value.0) ∷ []) held f.made) same (f.fetches value.0 (omega (arith, is, next))));
       few = let e = ap length f.ops in let k = f.count in omega (arith, e, k, few);
-      goes = goes_here (context_at w held a) body l.made b.last
-          (subst (λ s. Lays cps (sketch_of w ps ts2) (context_at w held s) body l.made b.last) site (subst (λ s. Lays cps (sketch_of w ps ts2) (context_at w s before.site) body l.made b.last) scope (l.lays ps ts2 x y)));
+      goes = subst (λ s. GoesOn cps (sketch_of w ps ts2) (context_at w held s) body l.made b.last) site (subst (λ s. GoesOn cps (sketch_of w ps ts2) (context_at w s before.site) body l.made b.last) scope (l.goes ps ts2 x y));
     };
   }
 

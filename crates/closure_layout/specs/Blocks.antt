@@ -10,7 +10,7 @@ use Rattle.frame_ir.specs.declared.forms.FrameOp.TheVariants as Op
 use Rattle.frame_ir.specs.declared.forms.FrameEnd.{FrameEnd}
 use Rattle.layout_tables.specs.declared.requests.Request.TheVariants as For
 use Rattle.layout_relation.specs.Contexts.{paired, Purpose}
-use Rattle.layout_relation.specs.Laid.{numbers, AreDistinct, Lays, most_needs, BlockFits, Fetches}
+use Rattle.layout_relation.specs.Laid.{numbers, AreDistinct, Lays, GoesOn, most_needs, BlockFits, Fetches}
 use Rattle.frame_ir.specs.declared.forms.Block.{Block}
 use Rattle.layout_tables.specs.declared.requests.Request.{Request}
 use Rattle.layout_tables.specs.declared.tables.Tables.{Tables}
@@ -43,6 +43,14 @@ pub record IsLaidFrom (cps : Cps) (w : Tables) (old new : Work) (before after : 
   pub grows : Grows w old new
   pub adds : Adds old new (bound_by made) (arms_of last)
   pub lays : Ever w new (λ v. Lays cps v (context_of w before) t made last)
+
+-- a block goes on so that it lays out a term, or that another block does which it goes to
+pub record IsGoneFrom (cps : Cps) (w : Tables) (old new : Work) (before after : Line) (t : ℕ) (last : FrameEnd) : Type 0 where
+  pub made : List FrameOp
+  pub ops : after.ops.items ≡ before.ops.items ++ made
+  pub grows : Grows w old new
+  pub adds : Adds old new (bound_by made) (arms_of last)
+  pub goes : Ever w new (λ v. GoesOn cps v (context_of w before) t made last)
 
 -- what a block binds, and what blocks bind and test
 abbrev pub binds_of : Block → List ℕ

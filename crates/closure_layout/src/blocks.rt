@@ -4,14 +4,14 @@ ghost use Rattle.layout_relation.specs.Contexts.{paired};
 ghost use Rattle.layout_relation.specs.Laid.{numbers};
 ghost use Rattle.layout_tables.specs.Sketches.{AreBelow, KnowsFirst, counted};
 ghost use Rattle.layout_tables.specs.Additions.{SeesBelow};
-ghost use Rattle.closure_layout.specs.Blocks.{IsStep, IsLaidFrom, IsBlockFor, IsFetched, IsOpened, AreApart, IsCallable, get_of};
+ghost use Rattle.closure_layout.specs.Blocks.{IsStep, IsLaidFrom, IsGoneFrom, IsBlockFor, IsFetched, IsOpened, AreApart, IsCallable, get_of};
 ghost use Rattle.layout_tables.specs.declared.requests.Request.TheVariants as For;
 
 use crate::labels::lay_labels;
 use cps_ir::{Arg, Cps, Term};
 use frame_ir::{Block, FrameEnd, FrameOp};
 use layout_steps::{
-    are_few, jump, lay_call, lay_catch, lay_cell, lay_cell_get, lay_cell_set, lay_give,
+    are_few, go_to_join, jump, lay_call, lay_catch, lay_cell, lay_cell_get, lay_cell_set, lay_give,
     lay_global_get, lay_global_init, lay_global_set, lay_halt, lay_if, lay_join, lay_object,
     lay_prim, lay_uncatch,
 };
@@ -270,6 +270,43 @@ fn fetch(from: Option<Var>, to: Var, slot: u32) -> FrameOp
     }
 }
 
+/// Goes on behind a frame with the body of its continuation, or, where this is a Join's, in the block of the Join.
+fn go_behind(
+    alloc: Global,
+    cps: &Cps,
+    tables: &Tables,
+    work: &mut Work,
+    line: &mut Line,
+    param: Var,
+    body: u32,
+    join: Option<u32>,
+) -> Result<FrameEnd, Memory>
+    requires first { KnowsFirst cps.now tables.now }
+    requires below { AreBelow work.old.next line.old.scope }
+    ensures { IfOk result (IsGoneFrom cps.now tables.now work.old work.new line.old line.new body) }
+{
+    match join {
+        Some(block) => {
+            let last = go_to_join(
+                alloc,
+                cps,
+                tables,
+                work,
+                &line.scope,
+                &line.site,
+                param,
+                body,
+                block,
+            )?;
+            Ok(last)
+        }
+        None => {
+            let last = lay_line(alloc, cps, tables, work, line, body)?;
+            Ok(last)
+        }
+    }
+}
+
 /// Goes on behind a call: the value, all that its frame keeps, and the rest.
 fn return_block(
     alloc: Global,
@@ -279,9 +316,10 @@ fn return_block(
     param: Var,
     body: u32,
     site: &Site,
+    join: Option<u32>,
 ) -> Result<Block, Memory>
     requires { KnowsFirst cps.now tables.now }
-    ensures { IfOk result (IsBlockFor cps.now tables.now work.old work.new (For.Resumes param body site.now)) }
+    ensures { IfOk result (IsBlockFor cps.now tables.now work.old work.new (For.Resumes param body site.now join)) }
 {
     let needs = needs_behind(alloc, tables, param, body)?;
     let site = site.copy(alloc)?;
@@ -301,7 +339,7 @@ fn return_block(
     fetch_all(work, &mut scope, &mut ops, &needs, None)?;
     ops.push(FrameOp::Pop)?;
     let mut line = Line { ops, scope, site };
-    let last = lay_line(alloc, cps, tables, work, &mut line, body)?;
+    let last = go_behind(alloc, cps, tables, work, &mut line, param, body, join)?;
     let mut params = Vec::new(alloc);
     params.push(value)?;
     Ok(Block {
@@ -453,8 +491,13 @@ pub(crate) fn lay_block(
             let block = passing_block(alloc, cps, tables, work)?;
             Ok(block)
         }
-        Request::Resumes { param, body, site } => {
-            let block = return_block(alloc, cps, tables, work, *param, *body, site)?;
+        Request::Resumes {
+            param,
+            body,
+            site,
+            join,
+        } => {
+            let block = return_block(alloc, cps, tables, work, *param, *body, site, *join)?;
             Ok(block)
         }
         Request::MethodOf { lam, kept } => {

@@ -85,3 +85,10 @@ module _ (u : Cps) where
       subst (AreBehind u) (append-nil (walked u))
       (go_all (depth_of u) (root_parts u)
       (each_more (λ p. HoldsWithin UsesVariables u (depth_of u) p.binds p.catches p.at) (λ p. Goes (depth_of u) p.at) (root_parts u) (λ p h. goes (depth_of u) p.binds p.catches p.at h) formed.scopes.used) [] tt)
+
+  -- the places at which walks begin are walked
+  pub roots_walked : IsFormed u → AllByRecursion (λ p. is_in (walked u) p.at ≡ true) (root_parts u)
+  roots_walked formed =
+      subst (λ zs. AllByRecursion (λ p. is_in zs p.at ≡ true) (root_parts u)) (append-nil (walked u))
+      (each_there (depth_of u) (root_parts u) []
+      (each_more (λ p. HoldsWithin UsesVariables u (depth_of u) p.binds p.catches p.at) (λ p. is_in (walked_within u (depth_of u) p.at) p.at ≡ true) (root_parts u) (λ p h. begins (depth_of u) p.binds p.catches p.at h) formed.scopes.used))

@@ -25,7 +25,7 @@ use Rattle.cps_live.proofs.Unfolds.{IsFreeBy, walked_free}
 
 -- ---- what a term binds is bound in the program
 
-abbrev Within : List ℕ → List ℕ → Type 0
+abbrev pub Within : List ℕ → List ℕ → Type 0
 Within xs all = (x : ℕ) → is_in xs x ≡ true → is_in all x ≡ true
 
 module _ (u : Cps) where
@@ -125,10 +125,9 @@ module _ (u : Cps) where
   ones [] = refl
   ones (x ∷ xs) = let e = ones xs in omega (arith, e)
 
-  few : (t : ℕ) (term : Term) (xs : List ℕ) → slice_get u.terms.items t ≡ Some term → term_reach u t ≤ u.shared.size + 2 → FreeIsBound t → Distinct xs → Within xs (free_at u t) → length xs ≤ u.shared.size + 2
-  few t term xs is fits bound distinct free =
+  pub few_reached : (t : ℕ) (term : Term) (xs : List ℕ) → slice_get u.terms.items t ≡ Some term → term_reach u t ≤ u.shared.size + 2 → Distinct xs → Within xs (reached_from u (free_at u t)) → length xs ≤ u.shared.size + 2
+  few_reached t term xs is fits distinct all =
       let reached = reached_from u (free_at u t) in
-      let all : Within xs reached = λ x i. free_reached (known_of u) (binders u) (free_at u t) x (bound x (free x i)) (free x i) (length (known_of u)) in
       let a = ones xs in
       let b = tot_among (λ x. 1) xs reached distinct all in
       let c = tot_each (λ x. 1) (words_of u) reached (words_least u) in
@@ -136,23 +135,29 @@ module _ (u : Cps) where
       let e : term_reach u t ≡ sum_by (words_of u) reached + 2 * length (procs_of term) = ap (λ o. option_map_or (λ r. sum_by (words_of u) (reached_from u (free_at u t)) + 2 * length (procs_of r)) o 0) is in
       omega (arith, a, b, c, d, e, fits)
 
-numbered : (xs : List Var) → length (numbers xs) ≡ length xs
+  few : (t : ℕ) (term : Term) (xs : List ℕ) → slice_get u.terms.items t ≡ Some term → term_reach u t ≤ u.shared.size + 2 → FreeIsBound t → Distinct xs → Within xs (free_at u t) → length xs ≤ u.shared.size + 2
+  few t term xs is fits bound distinct free =
+      few_reached t term xs is fits distinct (λ x i. free_reached (known_of u) (binders u) (free_at u t) x (bound x (free x i)) (free x i) (length (known_of u)))
+
+  -- as many as are reached by a LAMBDA
+  pub few_in_lambda : (xs free : List ℕ) → Distinct xs → Within xs (reached_from u free) → length xs ≤ length (reached_from u free)
+  few_in_lambda xs free distinct all =
+      let a = ones xs in
+      let b = tot_among (λ x. 1) xs (reached_from u free) distinct all in
+      let c = ones (reached_from u free) in
+      omega (arith, a, b, c)
+
+pub numbered : (xs : List Var) → length (numbers xs) ≡ length xs
 numbered [] = refl
 numbered (x ∷ xs) = ap suc (numbered xs)
 
-and_first : (a b : Bool) → (a && b) ≡ true → a ≡ true
+pub and_first : (a b : Bool) → (a && b) ≡ true → a ≡ true
 and_first true b e = refl
 and_first false b e = e
 
-pub few_are_live : FewAreLive
-few_are_live cps live whole is t c = at_option (slice_get live.at.items t) (is.reached t c)
+pub free_is_bound : (cps : Cps) → IsFormed cps → (t : ℕ) → is_in (walked cps) t ≡ true → Within (free_at cps t) (binders cps)
+free_is_bound cps formed t reached = in_each (FreeIsBound cps) (walked cps) t (each_joined (λ p. walked_within cps (depth_of cps) p.at) (FreeIsBound cps) (root_parts cps) roots) reached
   where
-    reached : is_in (walked cps) t ≡ true
-    reached = contains_in (walked cps) t c.0 c.1 c.2
-
-    formed : IsFormed cps
-    formed = whole.formed
-
     roots : AllByRecursion (λ p. AllByRecursion (FreeIsBound cps) (walked_within cps (depth_of cps) p.at)) (root_parts cps)
     roots =
         each_of_two (λ p. HoldsWithin UsesVariables cps (depth_of cps) p.binds p.catches p.at × HoldsWithin LeadsOn cps (depth_of cps) p.binds p.catches p.at) (λ p. HoldsWithin (Q cps) cps (depth_of cps) p.binds p.catches p.at × Within (binds_of p) (binders cps))
@@ -174,8 +179,17 @@ few_are_live cps live whole is t c = at_option (slice_get live.at.items t) (is.r
         roots_bound [] h = tt
         roots_bound (lam ∷ lams) h = (λ x i. lam_bound cps lam.params lam.k.0 [] x (λ a. h.0 x a) (λ b. absurd (false≢true b)) i, roots_bound lams h.1)
 
+pub few_are_live : FewAreLive
+few_are_live cps live whole is t c = at_option (slice_get live.at.items t) (is.reached t c)
+  where
+    reached : is_in (walked cps) t ≡ true
+    reached = contains_in (walked cps) t c.0 c.1 c.2
+
+    formed : IsFormed cps
+    formed = whole.formed
+
     bound : FreeIsBound cps t
-    bound = in_each (FreeIsBound cps) (walked cps) t (each_joined (λ p. walked_within cps (depth_of cps) p.at) (FreeIsBound cps) (root_parts cps) roots) reached
+    bound = free_is_bound cps formed t reached
 
     by : IsFreeBy cps t
     by = in_each (IsFreeBy cps) (walked cps) t (walked_free cps formed) reached

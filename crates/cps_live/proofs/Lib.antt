@@ -5,3 +5,6 @@ pub mod Unfolds
 pub mod LiveLemmas
 pub mod Fewness
 pub mod NeedLemmas
+pub mod FewNeeded
+pub mod FewInside
+pub mod JoinsFirst

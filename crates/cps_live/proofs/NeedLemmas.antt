@@ -30,7 +30,7 @@ use Rattle.cps_live.proofs.LiveLemmas.{put_here, put_apart, put_length, so_many,
 
 -- ---- a Join is told by its k
 
-in_terms : {X : Type 0} (f : X → List ℕ) (xs : List X) (ts : List ℕ) (t x : ℕ) (term : X) → is_in ts t ≡ true → slice_get xs t ≡ Some term → is_in (f term) x ≡ true → is_in (flat_map f (filter_map (slice_get xs) ts)) x ≡ true
+pub in_terms : {X : Type 0} (f : X → List ℕ) (xs : List X) (ts : List ℕ) (t x : ℕ) (term : X) → is_in ts t ≡ true → slice_get xs t ≡ Some term → is_in (f term) x ≡ true → is_in (flat_map f (filter_map (slice_get xs) ts)) x ≡ true
 in_terms f xs [] t x term i e h = absurd (false≢true i)
 in_terms f xs (s ∷ ts) t x term i e h = by_option (slice_get xs s) refl (λ j. in_terms f xs ts t x term j e h)
   where
@@ -41,7 +41,7 @@ in_terms f xs (s ∷ ts) t x term i e h = by_option (slice_get xs s) refl (λ j.
         (λ same. any_left (λ z. z == x) (f r) (flat_map f (filter_map (slice_get xs) ts)) (subst (λ y. is_in (f y) x ≡ true) (some_same term r (sym e ∙ sym (ap (slice_get xs) (eqb-true s t same)) ∙ q)) h))
         (λ j. any_right (λ z. z == x) (f r) (flat_map f (filter_map (slice_get xs) ts)) (go j)) i
 
-one_place : (xs : List Term) (ts : List ℕ) → Distinct (flat_map own_binders (filter_map (slice_get xs) ts)) → (x s t : ℕ) (a b : Term) → is_in ts s ≡ true → is_in ts t ≡ true → slice_get xs s ≡ Some a → slice_get xs t ≡ Some b
+pub one_place : (xs : List Term) (ts : List ℕ) → Distinct (flat_map own_binders (filter_map (slice_get xs) ts)) → (x s t : ℕ) (a b : Term) → is_in ts s ≡ true → is_in ts t ≡ true → slice_get xs s ≡ Some a → slice_get xs t ≡ Some b
     → is_in (own_binders a) x ≡ true → is_in (own_binders b) x ≡ true → s ≡ t
 one_place xs [] d x s t a b i j e q h g = absurd (false≢true i)
 one_place xs (r ∷ ts) d x s t a b i j e q h g = by_option (slice_get xs r) refl d (λ dd ii jj. one_place xs ts dd x s t a b ii jj e q h g)
@@ -91,7 +91,7 @@ module _ (u : Cps) (formed : IsFormed u) where
     pub param_same : param ≡ other
     pub body_same : body ≡ second
 
-  binds_k : (k param : Var) (body rest : ℕ) (x : ℕ) → k.0 ≡ x → is_in (own_binders (Node.Join k param body rest)) x ≡ true
+  pub binds_k : (k param : Var) (body rest : ℕ) (x : ℕ) → k.0 ≡ x → is_in (own_binders (Node.Join k param body rest)) x ≡ true
   binds_k k param body rest x e = or_right (param.0 == x) _ (or_left (k.0 == x) _ (same_number k.0 x e))
 
   one_join : (k param body other second : ℕ) → IsJoin u k param body → IsJoin u k other second → SameJoin param body other second
@@ -107,11 +107,11 @@ module _ (u : Cps) (formed : IsFormed u) where
 
   -- ---- what the variables of a list of free ones stand for
 
-  not_false : (b : Bool) → not b ≡ true → b ≡ false
+  pub not_false : (b : Bool) → not b ≡ true → b ≡ false
   not_false true e = absurd (false≢true e)
   not_false false e = refl
 
-  both : (a b : Bool) → (a && b) ≡ true → (a ≡ true) × (b ≡ true)
+  pub both : (a b : Bool) → (a && b) ≡ true → (a ≡ true) × (b ≡ true)
   both true b e = (refl, e)
   both false b e = absurd (false≢true e)
 
@@ -218,13 +218,13 @@ module _ (u : Cps) (formed : IsFormed u) where
       at_option None h = absurd h
       at_option (Some xs) h = h.exact x
 
-  part_walked : (ts : List ℕ) (t : ℕ) → AreBehind u ts → is_in ts t ≡ true → AllByRecursion (λ p. is_in ts p ≡ true) (places_under u t)
+  pub part_walked : (ts : List ℕ) (t : ℕ) → AreBehind u ts → is_in ts t ≡ true → AllByRecursion (λ p. is_in ts p ≡ true) (places_under u t)
   part_walked [] t b i = absurd (false≢true i)
   part_walked (s ∷ ts) t b i =
       any_or (s == t) (is_in ts t) (λ same. each_more (λ p. is_in ts p ≡ true) (λ p. is_in (s ∷ ts) p ≡ true) (places_under u t) (λ p h. or_right (s == p) _ h) (subst (λ z. AllByRecursion (λ p. is_in ts p ≡ true) (places_under u z)) (eqb-true s t same) b.0))
       (λ j. each_more (λ p. is_in ts p ≡ true) (λ p. is_in (s ∷ ts) p ≡ true) (places_under u t) (λ p h. or_right (s == p) _ h) (part_walked ts t b.1 j)) i
 
-  body_walked : (t : ℕ) (k param : Var) (body rest : ℕ) → is_in (walked u) t ≡ true → slice_get u.terms.items t ≡ Some (Node.Join k param body rest) → is_in (walked u) body ≡ true
+  pub body_walked : (t : ℕ) (k param : Var) (body rest : ℕ) → is_in (walked u) t ≡ true → slice_get u.terms.items t ≡ Some (Node.Join k param body rest) → is_in (walked u) body ≡ true
   body_walked t k param body rest i e =
       (subst (AllByRecursion (λ p. is_in (walked u) p ≡ true)) (ap (λ o. option_map_or (part_places u) o []) e) (part_walked (walked u) t (walk_is_behind u formed) i)).0
 

@@ -1,5 +1,5 @@
 -- Values that are given.
-use Rattle.std.proofs.Common.{◌≡◌, ℕ, ◌+◌, ◌<◌, ◌≤◌, List, [], ◌∷◌, length, map, drop, slice_get, Some, refl, sym, ap, subst, ◌∙◌, arith}
+use Rattle.std.proofs.Common.{◌≡◌, ℕ, ◌+◌, ◌-◌, ◌<◌, ◌≤◌, List, [], ◌∷◌, length, map, drop, slice_get, Some, refl, sym, ap, subst, ◌∙◌, arith}
 use Rattle.std.specs.Option.{option_map}
 use Rattle.std.proofs.lemmas.Option.{slice_get-map}
 use Rattle.t_base.specs.declared.basics.Var.{Var}
@@ -113,4 +113,14 @@ module _ (cps : Cps) (w : Tables) where
     adds = adds_end old new last adds (ap arms_of e);
     ever = λ ps ts f g. subst (λ i. GoesOn cps (sketch_of w ps ts) (context_at w vars a) t [] i) (sym e)
         (goes_to (context_at w vars a) t block (numbers needs) ats (h ps ts f g) held (let l = zipped_length _ _ _ held in omega (arith, l, few)));
+  }
+
+  pub goes_to_join : (k : Work) (vars : Scoped) (a : Around) (param : Var) (body block : ℕ) (needs ats : List Var) (last : FrameEnd) → slice_get k.requests.items block ≡ Some (For.Begins needs a body) → AreHeld vars (numbers needs) ats → length ats - 1 ≤ cps.shared.size + 2
+      → last ≡ Last.Jump block (variables ats) → Ends w k k last (λ v. GoesOn cps v (context_at w vars a) body [] last)
+  goes_to_join k vars a param body block needs ats last asked held few e = record {
+    grows = grows_none w k;
+    next = refl;
+    adds = adds_end k k last (adds_none k) (ap arms_of e);
+    ever = λ ps ts f g. subst (λ i. GoesOn cps (sketch_of w ps ts) (context_at w vars a) body [] i) (sym e)
+        (goes_to (context_at w vars a) body block (numbers needs) ats (f block (purpose_of w (For.Begins needs a body)) (slice_get-map (purpose_of w) k.requests.items block ∙ ap (option_map (purpose_of w)) asked)) held (let l = zipped_length _ _ _ held in omega (arith, l, few)));
   }

@@ -343,3 +343,29 @@ pub fn go_to(
     let last = jump(alloc, block, &ats)?;
     Ok(last)
 }
+
+/// Goes on in the block of a Join, which was asked for, with its parameter and what is needed behind it.
+pub fn go_to_join(
+    alloc: Global,
+    cps: &Cps,
+    tables: &Tables,
+    work: &Work,
+    scope: &Scope,
+    site: &Site,
+    param: Var,
+    body: u32,
+    block: u32,
+) -> Result<FrameEnd, Memory>
+    ensures { IfOk result (λ last. Ends tables.now work.now work.now last (λ v. GoesOn cps.now v (context_at tables.now scope.now site.now) body [] last)) }
+{
+    let vars = begin_with(alloc, tables, param, body)?;
+    let ats = find_all(alloc, scope, vars.as_slice())?;
+    if !are_few(cps, ats.len().saturating_sub(1)) {
+        return Err(Memory);
+    }
+    if !is_asked_for(work, block, &vars, site, body) {
+        return Err(Memory);
+    }
+    let last = jump(alloc, block, &ats)?;
+    Ok(last)
+}

@@ -39,7 +39,7 @@ arms_join n (For.MethodOf l kept ∷ xs) ys = arms_join (suc n) xs ys ∙ ap (λ
 arms_join n (For.Begins vars site term ∷ xs) ys = arms_join (suc n) xs ys ∙ ap (λ k. arms_from (suc n) xs ++ arms_from k ys) (omega arith)
 arms_join n (For.ArmOf vars site term ∷ xs) ys = ap (λ zs. n ∷ zs) (arms_join (suc n) xs ys ∙ ap (λ k. arms_from (suc n) xs ++ arms_from k ys) (omega arith))
 arms_join n (For.PassesOn ∷ xs) ys = arms_join (suc n) xs ys ∙ ap (λ k. arms_from (suc n) xs ++ arms_from k ys) (omega arith)
-arms_join n (For.Resumes param body site ∷ xs) ys = arms_join (suc n) xs ys ∙ ap (λ k. arms_from (suc n) xs ++ arms_from k ys) (omega arith)
+arms_join n (For.Resumes param body site join ∷ xs) ys = arms_join (suc n) xs ys ∙ ap (λ k. arms_from (suc n) xs ++ arms_from k ys) (omega arith)
 
 -- ---- what arms see
 
@@ -53,7 +53,7 @@ sees_more n m le (For.CodeOf l) h = tt
 sees_more n m le (For.MethodOf l kept) h = tt
 sees_more n m le (For.Begins vars site term) h = tt
 sees_more n m le For.PassesOn h = tt
-sees_more n m le (For.Resumes param body site) h = tt
+sees_more n m le (For.Resumes param body site join) h = tt
 
 -- ---- steps
 

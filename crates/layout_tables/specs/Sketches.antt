@@ -116,7 +116,7 @@ purpose_of w (For.MethodOf l kept) = MethodOf l (numbers kept)
 purpose_of w (For.Begins vars site term) = Begins (record { vars = numbers vars; exits = exits_at w site; catches = catches_of site; term = term })
 purpose_of w (For.ArmOf vars site term) = ArmOf (context_at w vars site) term
 purpose_of w For.PassesOn = PassesOn
-purpose_of w (For.Resumes param body site) = Resumes (record { kept = needs_behind w param body; param = param.0; body = body; exits = exits_at w site; catches = catches_of site })
+purpose_of w (For.Resumes param body site join) = Resumes (record { kept = needs_behind w param body; param = param.0; body = body; exits = exits_at w site; catches = catches_of site })
 
 abbrev pub purposes_of : Tables → List Request → List Purpose
 purposes_of w requests = map (purpose_of w) requests

@@ -15,15 +15,32 @@ pub enum Request {
     /// The code of the closures of a procedure.
     CodeOf(u32),
     /// The code of a method of an object that keeps these variables.
-    MethodOf { lam: u32, kept: Vars },
+    MethodOf {
+        lam: u32,
+        kept: Vars,
+    },
     /// A block that gets these variables and lays out a term.
-    Begins { vars: Vars, site: Site, term: u32 },
+    Begins {
+        vars: Vars,
+        site: Site,
+        term: u32,
+    },
     /// An arm of an If, which sees what is seen at its end.
-    ArmOf { scope: Scope, site: Site, term: u32 },
+    ArmOf {
+        scope: Scope,
+        site: Site,
+        term: u32,
+    },
     /// The block of a CATCH in a tail place, which returns the value.
     PassesOn,
-    /// The block to which a call returns, with the parameter and the body of its continuation.
-    Resumes { param: Var, body: u32, site: Site },
+    /// The block to which a call returns, with the parameter and the body of its continuation. Where this is a Join's, the block of the
+    /// Join lays out the body, and this one goes on there.
+    Resumes {
+        param: Var,
+        body: u32,
+        site: Site,
+        join: Option<u32>,
+    },
 }
 
 /// The blocks that are asked for so far, in order, the templates of objects, and the number of the next variable of the frames.
@@ -130,12 +147,18 @@ pub fn copy_request(alloc: Global, request: &Request) -> Result<Request, Memory>
             })
         }
         Request::PassesOn => Ok(Request::PassesOn),
-        Request::Resumes { param, body, site } => {
+        Request::Resumes {
+            param,
+            body,
+            site,
+            join,
+        } => {
             let site = site.copy(alloc)?;
             Ok(Request::Resumes {
                 param: *param,
                 body: *body,
                 site,
+                join: *join,
             })
         }
     }
