@@ -1,0 +1,12 @@
+//! A program that stands for a unit is formed: what is named is there, each variable is bound once and used where it is bound, and each
+//! continuation leads on in its own procedure and under the right catches.
+#![tactic(auto)]
+
+ghost use Rattle.conversion_scopes.specs.Once.{TermsAreOnce, VariablesAreOnce};
+
+/// Where terms stand in order, each named once, no term is reached twice; and where no variable is bound twice by what is listed, none is
+/// by what is reached.
+pub fn nothing_is_reached_twice()
+    ensures terms { TermsAreOnce }
+    ensures variables { VariablesAreOnce }
+{}
