@@ -1,21 +1,20 @@
 -- Where terms stand in order, none is reached twice, and nothing that is bound once is bound twice there.
 use Rattle.std.specs.Prelude.{◌≢◌, AllPairs, nat_lt}
-use Rattle.std.specs.List.{AllByRecursion, flat_map, filter_map}
+use Rattle.std.specs.List.{AllByRecursion, flat_map}
 use Rattle.std.specs.Option.{option_map_or}
-use Rattle.std.proofs.Common.{◌≡◌, ℕ, zero, suc, ◌+◌, ◌≤◌, ◌<◌, ◌==◌, Bool, true, false, not, if◌then◌else◌, List, [], ◌∷◌, ◌++◌, length, take, get_or, Option, Some, None, slice_get, inl, inr, refl, sym, ap, ◌∙◌, subst, arith}
+use Rattle.std.proofs.Common.{◌≡◌, ℕ, zero, suc, ◌+◌, ◌≤◌, ◌<◌, ◌==◌, Bool, true, false, not, if◌then◌else◌, List, [], ◌∷◌, ◌++◌, length, take, Option, Some, None, slice_get, inl, inr, refl, sym, ap, ◌∙◌, arith}
 use Rattle.std.proofs.lemmas.Bool.{eqb-true, ltb-true, ltb-false, cases_lt}
-use Rattle.std.proofs.lemmas.List.{take_more}
 use Rattle.std.proofs.lemmas.List.Kept.{AllPairs-cons}
-use Rattle.std.proofs.lemmas.Option.{slice_get_within, slice_get-get_or}
+use Rattle.std.proofs.lemmas.Option.{slice_get_within}
 use Rattle.cps_ir.specs.declared.terms.Lam.{Lam}
 use Rattle.cps_ir.specs.declared.terms.Term.{Term}
 use Rattle.cps_ir.specs.declared.terms.Cps.{Cps}
 use Rattle.cps_ir.specs.Parts.{Part, lams_of, lambda_at, lambdas_of, parts_of, first_lams, root_parts, root_lams, depth_of, walked, walked_within, reached_terms, reached_lams, own_binders, lam_binders, binders}
 use Rattle.cps_ir.proofs.ProperLists.{some_same, there_below, each_of}
 use Rattle.cps_ir.proofs.Closed.{same_number, all_of_each}
-use Rattle.cps_ir.proofs.Counts.{tot, tot_append, tot_le, tot_each, tot_same, tot_map, count}
+use Rattle.cps_ir.proofs.Counts.{tot, tot_append, tot_each, tot_same, tot_map, count}
 use Rattle.cps_ir.proofs.Listed.{once_weighs, past_weighs, found_tot, joined_tot}
-use Rattle.cps_walk.specs.Walks.{places_of, part_places, root_places}
+use Rattle.cps_walk.specs.Walks.{part_places, root_places}
 use Rattle.cps_walk.proofs.Walked.{parts_placed, roots_placed}
 use Rattle.cps_order.specs.Order.{one, tally, named_by, IsOrdered}
 use Rattle.cps_order.proofs.Reached.{below_tally}
@@ -134,7 +133,7 @@ module _ (cps : Cps) where
     fewer (suc m) places le below few n = elim (cases_lt 0 (tally places m)) [
       | inl has ↦ there (there_below cps.terms.items m (omega (arith, le))) (taken places m has) (λ ps. fewer m ps (omega (arith, le)))
       | inr none ↦
-          let h = fewer m places (omega (arith, le)) (λ k has. let lt = below k has in elim (cases_lt k m) [ | inl low ↦ low | inr high ↦ let e : k ≡ m = omega (arith, lt, high) in let z : tally places k ≡ tally places m = ap (tally places) e in absurd (omega (arith, z, none, has)) ])
+          let h = fewer m places (omega (arith, le)) (λ k has. let lt = below k has in elim (cases_lt k m) [ inl low ↦ low | inr high ↦ let e : k ≡ m = omega (arith, lt, high) in let z : tally places k ≡ tally places m = ap (tally places) e in absurd (omega (arith, z, none, has)) ])
           (λ k lt. let f = few k (omega (arith, lt)) in let t = there_below cps.terms.items m (omega (arith, le)) in let g = named_more m k t.0 t.1 in omega (arith, f, g)) n in
           let e = edge m n in
           omega (arith, h, e)
@@ -148,23 +147,23 @@ module _ (cps : Cps) where
             let rest_tally : (k : ℕ) → tally places k ≡ one (m == k) + tally r.rest k = λ k. sym (tally_tot places k) ∙ r.sums (λ l. one (l == k)) ∙ ap (λ l. one (m == k) + l) (tally_tot r.rest k) in
             let once : tally places m ≤ 1 = let f = few m (omega arith) in omega (arith, f) in
             let low : (k : ℕ) → 1 ≤ tally (parts ++ r.rest) k → k < m = λ k h.
-                let a = tally_append parts r.rest k in
-                let b = rest_tally k in
-                elim (cases_lt 0 (tally parts k)) [
-                  | inl here ↦ below_tally m parts k (ordered.lower m t.0 t.1) here
-                  | inr none ↦
-                      let lt = below k (omega (arith, a, b, h, none)) in
-                      elim (cases_lt k m) [
-                        | inl low ↦ low
-                        | inr high ↦ let e : m ≡ k = omega (arith, lt, high) in let s = one_same m in let z : one (m == k) ≡ one (m == m) = ap (λ l. one (m == l)) (sym e) in let y : tally places k ≡ tally places m = ap (tally places) (sym e) in absurd (omega (arith, a, b, h, none, s, z, y, once))
-                      ]
-                ] in
+            let a = tally_append parts r.rest k in
+            let b = rest_tally k in
+            elim (cases_lt 0 (tally parts k)) [
+              | inl here ↦ below_tally m parts k (ordered.lower m t.0 t.1) here
+              | inr none ↦
+                  let lt = below k (omega (arith, a, b, h, none)) in
+                  elim (cases_lt k m) [
+                    | inl low ↦ low
+                    | inr high ↦ let e : m ≡ k = omega (arith, lt, high) in let s = one_same m in let z : one (m == k) ≡ one (m == m) = ap (λ l. one (m == l)) (sym e) in let y : tally places k ≡ tally places m = ap (tally places) (sym e) in absurd (omega (arith, a, b, h, none, s, z, y, once))
+                  ]
+            ] in
             let count : (k : ℕ) → k < m → tally (parts ++ r.rest) k + tally (named_by cps (take m cps.terms.items)) k ≤ 1 = λ k lt.
-                let a = tally_append parts r.rest k in
-                let b = rest_tally k in
-                let f = few k (omega (arith, lt)) in
-                let g = named_more m k t.0 t.1 in
-                omega (arith, a, b, f, g) in
+            let a = tally_append parts r.rest k in
+            let b = rest_tally k in
+            let f = few k (omega (arith, lt)) in
+            let g = named_more m k t.0 t.1 in
+            omega (arith, a, b, f, g) in
             let h = go (parts ++ r.rest) low count n in
             let s = r.sums (times (depth_of cps) n) in
             let o = opens n (length cps.terms.items) m t.0 t.1 in

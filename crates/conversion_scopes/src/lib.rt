@@ -3,10 +3,16 @@
 #![tactic(auto)]
 
 ghost use Rattle.conversion_scopes.specs.Once.{TermsAreOnce, VariablesAreOnce};
+ghost use Rattle.conversion_scopes.specs.Formed.{ConvertedIsFormed};
 
 /// Where terms stand in order, each named once, no term is reached twice; and where no variable is bound twice by what is listed, none is
 /// by what is reached.
 pub fn nothing_is_reached_twice()
     ensures terms { TermsAreOnce }
     ensures variables { VariablesAreOnce }
+{}
+
+/// A program that stands for a whole unit within its limits is whole but for fitting, where what is owed beside the relation holds.
+pub fn converted_is_formed()
+    ensures { ConvertedIsFormed }
 {}
