@@ -40,23 +40,23 @@ module _ (P Q : List Name → List ℕ → Term → Type 0) (f : (scope : List N
   each_holds h = each_more (λ p. HoldsWithin P cps (depth_of cps) p.binds p.catches p.at) (λ p. HoldsWithin Q cps (depth_of cps) p.binds p.catches p.at) (root_parts cps) (λ p g. holds_more (depth_of cps) p.binds p.catches p.at g) h
 
 module _ (x : Translation) (tr : IsTranslated x) (ordered : IsOrdered x.cps) where
-  first_good : (l : ℕ) → l < first_lams x.cps → GoodLam x.cps ordered [] [] l
+  first_good : (l : ℕ) → l < first_lams x.cps → GoodLam x.unit x.cps ordered [] [] l
   first_good l lt = let r = first_found x tr l lt in lam_good x ordered tr.depth (within_good x ordered tr.depth) r.0.form [] r.0.params r.0.body l [] [] (none_bound []) r.1
 
   abbrev FineAt : Part → Type 0
-  FineAt p = HoldsWithin Fine x.cps (depth_of x.cps) p.binds p.catches p.at
+  FineAt p = HoldsWithin (Fine x.unit x.cps) x.cps (depth_of x.cps) p.binds p.catches p.at
 
-  lams_fine : (n : ℕ) (lams : List Lam) → ((l : ℕ) (lam : Lam) → l < n → slice_get lams l ≡ Some lam → Good x.cps ordered ((named lam.params ++ OwnK lam.k.0 ∷ []) ++ []) [] lam.body)
+  lams_fine : (n : ℕ) (lams : List Lam) → ((l : ℕ) (lam : Lam) → l < n → slice_get lams l ≡ Some lam → Good x.unit x.cps ordered ((named lam.params ++ OwnK lam.k.0 ∷ []) ++ []) [] lam.body)
       → AllByRecursion (λ u. u < length x.cps.terms.items) (map (λ (lam : Lam). lam.body) (take n lams)) → AllByRecursion FineAt (map (lambda_part []) (take n lams))
   lams_fine zero lams f low = tt
   lams_fine (suc n) [] f low = tt
   lams_fine (suc n) (lam ∷ lams) f low =
       let lt = low.0 in (
-        subst (λ s. HoldsWithin Fine x.cps (depth_of x.cps) s [] lam.body) (append-nil (named lam.params ++ OwnK lam.k.0 ∷ [])) ((f 0 lam (omega arith) refl).each (depth_of x.cps) (omega (arith, lt))),
+        subst (λ s. HoldsWithin (Fine x.unit x.cps) x.cps (depth_of x.cps) s [] lam.body) (append-nil (named lam.params ++ OwnK lam.k.0 ∷ [])) ((f 0 lam (omega arith) refl).each (depth_of x.cps) (omega (arith, lt))),
         lams_fine n lams (λ l m lt e. f (suc l) m (omega (arith, lt)) e) low.1,
       )
 
-  all_fine : HoldsOfEach Fine x.cps
+  all_fine : HoldsOfEach (Fine x.unit x.cps) x.cps
   all_fine =
       let low = each_of_all (λ u. u < length x.cps.terms.items) (root_places x.cps) ordered.roots in
       let lt = low.0 in (
@@ -70,8 +70,8 @@ converted_is_formed unit cps w small c owed =
     let fine = all_fine (record { unit = unit; cps = cps; origins = c.origins }) c.translated owed.ordered in
     record {
       places = record { entry = s.entry; firsts = s.firsts; bodies = s.bodies; terms = s.names; named_once = named_once cps owed.ordered };
-      scopes = record { bound_once = bound_once cps owed.ordered owed; used = each_holds Fine UsesVariables (λ scope catches term f. f.uses) cps fine };
+      scopes = record { bound_once = bound_once cps owed.ordered owed; used = each_holds (Fine unit cps) UsesVariables (λ scope catches term f. f.uses) cps fine };
       shapes = s.shapes;
-      ways = each_holds Fine LeadsOn (λ scope catches term f. f.leads) cps fine;
+      ways = each_holds (Fine unit cps) LeadsOn (λ scope catches term f. f.leads) cps fine;
       shared = s.shared;
     }
