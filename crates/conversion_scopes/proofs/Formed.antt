@@ -40,7 +40,7 @@ module _ (P Q : List Name → List ℕ → Term → Type 0) (f : (scope : List N
   each_holds h = each_more (λ p. HoldsWithin P cps (depth_of cps) p.binds p.catches p.at) (λ p. HoldsWithin Q cps (depth_of cps) p.binds p.catches p.at) (root_parts cps) (λ p g. holds_more (depth_of cps) p.binds p.catches p.at g) h
 
 module _ (x : Translation) (tr : IsTranslated x) (ordered : IsOrdered x.cps) where
-  first_good : (l : ℕ) → l < first_lams x.cps → GoodLam x.unit x.cps ordered [] [] l
+  pub first_good : (l : ℕ) → l < first_lams x.cps → GoodLam x.unit x.cps ordered [] [] l
   first_good l lt = let r = first_found x tr l lt in lam_good x ordered tr.depth (within_good x ordered tr.depth) r.0.form [] r.0.params r.0.body l [] [] (none_bound []) r.1
 
   abbrev FineAt : Part → Type 0
@@ -56,7 +56,7 @@ module _ (x : Translation) (tr : IsTranslated x) (ordered : IsOrdered x.cps) whe
         lams_fine n lams (λ l m lt e. f (suc l) m (omega (arith, lt)) e) low.1,
       )
 
-  all_fine : HoldsOfEach (Fine x.unit x.cps) x.cps
+  pub all_fine : HoldsOfEach (Fine x.unit x.cps) x.cps
   all_fine =
       let low = each_of_all (λ u. u < length x.cps.terms.items) (root_places x.cps) ordered.roots in
       let lt = low.0 in (

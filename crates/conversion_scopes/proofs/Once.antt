@@ -34,7 +34,7 @@ pub tally_flat : {X : Type 0} (f : X → List ℕ) (xs : List X) (n : ℕ) → t
 tally_flat f [] n = refl
 tally_flat f (x ∷ xs) n = let a = tally_append (f x) (flat_map f xs) n in let h = tally_flat f xs n in omega (arith, a, h)
 
-one_same : (n : ℕ) → one (n == n) ≡ 1
+pub one_same : (n : ℕ) → one (n == n) ≡ 1
 one_same n = ap one (same_number n n refl)
 
 -- ---- lists in which nothing stands twice

@@ -27,7 +27,7 @@ use Rattle.cps_ir.proofs.Closed.{same_number, parts_same, all_of_each}
 use Rattle.cps_walk.specs.Walks.{part_places}
 use Rattle.cps_walk.proofs.Walked.{parts_placed}
 use Rattle.cps_order.specs.Order.{IsOrdered}
-use Rattle.cps_conversion.specs.Conversion.{Translation, adding, is_proc, ready_arg, IsBound}
+use Rattle.cps_conversion.specs.Conversion.{adding, is_proc, ready_arg, IsBound}
 
 -- ---- scopes
 

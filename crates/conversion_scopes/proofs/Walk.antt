@@ -105,18 +105,22 @@ module _ (x : Translation) (ordered : IsOrdered x.cps) where
         values_good form bound held tos keys args t last inner scope catches b
         (λ wide e given. f wide e (arg_grown x.unit scope wide a e.values (ready_in x.unit scope bound (node_at x.unit form key) a b h.0 h.1), given)) h.2
     values_good form bound held (None ∷ tos) (key ∷ keys) (a ∷ args) t last inner scope catches b f (inr h) =
-        go form bound held key (Continuation.Lam h.1.0 h.1.1) t scope catches b
-        (h.1.3.unassigned, λ wide e.
-        let here = wider scope wide (Named h.1.0.0 ∷ wide) e (with_value wide h.1.0.0) in
-        values_good form bound (h.1.0.0 ∷ held) tos keys args h.1.1 last inner (Named h.1.0.0 ∷ wide) catches (bound_grown scope (Named h.1.0.0 ∷ wide) bound here.values b)
-        (λ more e2 given. f more (wider scope (Named h.1.0.0 ∷ wide) more here e2) (subst (ArgIn x.unit more) (sym h.1.2) (e2.values h.1.0.0 (first_of (Named h.1.0.0) wide), h.1.3.unassigned), given)) h.1.5)
+        go form bound held key (Continuation.Lam h.1.0 h.1.1) t scope catches b (
+          h.1.3.unassigned,
+          λ wide e.
+              let here = wider scope wide (Named h.1.0.0 ∷ wide) e (with_value wide h.1.0.0) in
+              values_good form bound (h.1.0.0 ∷ held) tos keys args h.1.1 last inner (Named h.1.0.0 ∷ wide) catches (bound_grown scope (Named h.1.0.0 ∷ wide) bound here.values b)
+              (λ more e2 given. f more (wider scope (Named h.1.0.0 ∷ wide) more here e2) (subst (ArgIn x.unit more) (sym h.1.2) (e2.values h.1.0.0 (first_of (Named h.1.0.0) wide), h.1.3.unassigned), given)) h.1.5,
+        )
         h.1.4
     values_good form bound held (Some v ∷ tos) (key ∷ keys) (a ∷ args) t last inner scope catches b f h =
-        go form bound held key (Continuation.Lam v h.0) t scope catches b
-        (h.2.unassigned, λ wide e.
-        let here = wider scope wide (Named v.0 ∷ wide) e (with_value wide v.0) in
-        values_good form bound (v.0 ∷ held) tos keys args h.0 last inner (Named v.0 ∷ wide) catches (bound_grown scope (Named v.0 ∷ wide) bound here.values b)
-        (λ more e2 given. f more (wider scope (Named v.0 ∷ wide) more here e2) (subst (ArgIn x.unit more) (sym h.1) (e2.values v.0 (first_of (Named v.0) wide), h.2.unassigned), given)) h.4)
+        go form bound held key (Continuation.Lam v h.0) t scope catches b (
+          h.2.unassigned,
+          λ wide e.
+              let here = wider scope wide (Named v.0 ∷ wide) e (with_value wide v.0) in
+              values_good form bound (v.0 ∷ held) tos keys args h.0 last inner (Named v.0 ∷ wide) catches (bound_grown scope (Named v.0 ∷ wide) bound here.values b)
+              (λ more e2 given. f more (wider scope (Named v.0 ∷ wide) more here e2) (subst (ArgIn x.unit more) (sym h.1) (e2.values v.0 (first_of (Named v.0) wide), h.2.unassigned), given)) h.4,
+        )
         h.3
     values_good form bound held [] [] (a ∷ args) t last inner scope catches b f h = absurd h
     values_good form bound held [] (key ∷ keys) args t last inner scope catches b f h = absurd h
@@ -230,10 +234,12 @@ module _ (x : Translation) (ordered : IsOrdered x.cps) where
     block_good form bound held [] k t scope catches b g h = absurd h
     block_good form bound held (key ∷ []) k t scope catches b g h = go form bound held key k t scope catches b g h
     block_good form bound held (key ∷ next ∷ keys) k t scope catches b g h =
-        go form bound held key (Continuation.Lam h.0 h.1) t scope catches b
-        (h.2.unassigned, λ wide e.
-        let here = wider scope wide (Named h.0.0 ∷ wide) e (with_value wide h.0.0) in
-        block_good form bound held (next ∷ keys) k h.1 (Named h.0.0 ∷ wide) catches (bound_grown scope (Named h.0.0 ∷ wide) bound here.values b) (scopes.cont_grown x.unit x.cps ordered scope (Named h.0.0 ∷ wide) catches k here g) h.4) h.3
+        go form bound held key (Continuation.Lam h.0 h.1) t scope catches b (
+          h.2.unassigned,
+          λ wide e.
+              let here = wider scope wide (Named h.0.0 ∷ wide) e (with_value wide h.0.0) in
+              block_good form bound held (next ∷ keys) k h.1 (Named h.0.0 ∷ wide) catches (bound_grown scope (Named h.0.0 ∷ wide) bound here.values b) (scopes.cont_grown x.unit x.cps ordered scope (Named h.0.0 ∷ wide) catches k here g) h.4,
+        ) h.3
 
     let_good : (form : ℕ) (bound held : List ℕ) (vars : List Var) (keys : List ℕ) (body : ℕ) (k : Cont) (t : ℕ) (scope : List Name) (catches : List ℕ) → HasBound scope bound → GoodCont scope catches k → LetAs x conv form bound held vars keys body k t → Good scope catches t
     let_good form bound held vars keys body k t scope catches b g h =
@@ -305,11 +311,13 @@ module _ (x : Translation) (ordered : IsOrdered x.cps) where
               (λ wide e bs.
               let here = wider scope inner wide first e in
               go form (v.0 ∷ bound) (v.0 ∷ held) body (Continuation.Lam h.value h.end) h.start wide opened
-              (all_bound wide (v ∷ []) bound (each_bound wide (v ∷ []) (Argument.Var h.name ∷ []) ((e.values h.name.0 (first_of (Named h.name.0) scope), h.name_new.unassigned), tt) bs) (bound_grown scope wide bound here.values b))
-              (h.value_new.unassigned, λ more e2.
-              let last = Named h.value.0 ∷ more in
-              let way = scopes.cont_grown x.unit x.cps ordered scope last catches k (wider scope wide last here (wider wide more last e2 (with_value more h.value.0))) g in
-              scopes.made x.unit x.cps ordered last opened h.end (Step.Uncatch k (Argument.Var h.value)) h.ends (first_of (Named h.value.0) more, tt) tt (scopes.cont_leads x.unit x.cps ordered last catches k way) (omega arith) ((h.value_new.unassigned, tt), scopes.cont_free x.unit x.cps ordered last catches k way) tt (scopes.cont_good x.unit x.cps ordered last catches k way))
+              (all_bound wide (v ∷ []) bound (each_bound wide (v ∷ []) (Argument.Var h.name ∷ []) ((e.values h.name.0 (first_of (Named h.name.0) scope), h.name_new.unassigned), tt) bs) (bound_grown scope wide bound here.values b)) (
+                h.value_new.unassigned,
+                λ more e2.
+                    let last = Named h.value.0 ∷ more in
+                    let way = scopes.cont_grown x.unit x.cps ordered scope last catches k (wider scope wide last here (wider wide more last e2 (with_value more h.value.0))) g in
+                    scopes.made x.unit x.cps ordered last opened h.end (Step.Uncatch k (Argument.Var h.value)) h.ends (first_of (Named h.value.0) more, tt) tt (scopes.cont_leads x.unit x.cps ordered last catches k way) (omega arith) ((h.value_new.unassigned, tt), scopes.cont_free x.unit x.cps ordered last catches k way) tt (scopes.cont_good x.unit x.cps ordered last catches k way),
+              )
               h.body_as)
               h.assigned,
           scopes.cont_good x.unit x.cps ordered scope catches k g,
