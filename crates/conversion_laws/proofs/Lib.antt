@@ -1,4 +1,5 @@
 pub mod Visits
+pub mod Firsts
 pub mod Roots
 pub mod Plain
 pub mod Widths

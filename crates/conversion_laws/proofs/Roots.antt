@@ -1,11 +1,9 @@
 -- What holds of all terms of a program that stands for a unit.
 use Rattle.std.specs.List.{AllByRecursion, filter}
 use Rattle.std.specs.Option.{option_map_or}
-use Rattle.std.proofs.Common.{◌≡◌, ℕ, zero, suc, ◌≤◌, ◌<◌, ◌+◌, ◌==◌, cond, Bool, true, false, if◌then◌else◌, inl, inr, List, [], ◌∷◌, length, map, take, Option, Some, None, slice_get, refl, sym, ap, ◌∙◌, subst, arith}
+use Rattle.std.proofs.Common.{◌≡◌, ℕ, zero, suc, ◌≤◌, ◌<◌, ◌+◌, ◌==◌, Bool, true, false, if◌then◌else◌, inl, inr, List, [], ◌∷◌, length, map, take, Option, Some, None, slice_get, refl, sym, ap, ◌∙◌, subst, arith}
 use Rattle.std.proofs.lemmas.Bool.{eqb-true, cases_lt}
 use Rattle.std.proofs.lemmas.Option.{slice_get_within}
-use Rattle.t_base.specs.declared.shared_parts.Global1.{Global1}
-use Rattle.t_base.specs.declared.shared_parts.OpInfo.{OpInfo}
 use Rattle.t_meaning.specs.State.{Procedure}
 use Rattle.t_meaning.specs.Operations.{default_of}
 use Rattle.t_meaning.specs.Units.{start}
@@ -16,54 +14,14 @@ use Rattle.cps_ir.specs.declared.terms.Lam.{Lam}
 use Rattle.cps_ir.specs.declared.terms.Term.{Term}
 use Rattle.cps_ir.specs.States.{Closure}
 use Rattle.cps_ir.specs.Calls.{default_of as cps_default_of, default_at}
-use Rattle.cps_ir.specs.Running.{start as cps_start, first_closures}
-use Rattle.cps_ir.specs.Parts.{is_procedure, lambda_part, global_lams, first_lams, root_parts, depth_of, walked, walked_within}
+use Rattle.cps_ir.specs.Running.{start as cps_start}
+use Rattle.cps_ir.specs.Parts.{lambda_part, global_lams, first_lams, root_parts, depth_of, walked, walked_within}
 use Rattle.cps_ir.proofs.ProperLists.{some_same, none_some, each_more, each_joined}
-use Rattle.cps_conversion.specs.Conversion.{Translation, Stands, ConvertsWithin, RootAs, RootsAs, DefaultAs, LamAt, IsTranslated}
+use Rattle.cps_conversion.specs.Conversion.{Translation, Stands, ConvertsWithin, RootAs, RootsAs, DefaultAs, IsTranslated}
 use Rattle.cps_order.specs.Order.{one, tally, IsOrdered}
 use Rattle.cps_order.proofs.Reached.{all_walked}
+use Rattle.conversion_laws.proofs.Firsts.{has_default, first_at, Ranked, ranked, zero_plus, gap}
 use Rattle.conversion_laws.proofs.Visits.{Table, FormTable, Full, FullAt, Good, lam_good, within_good, forms_good}
-
-abbrev has_default : OpInfo → Bool
-has_default info = info.default
-
--- the closures of the globals' procedures have their numbers in order
-first_at : (next : ℕ) (globals : List Global1) (i : ℕ) → i < length (filter is_procedure globals) → slice_get (first_closures next globals) i ≡ Some (record { lam = next + i; scope = [] })
-first_at next [] i lt = absurd (omega (arith, lt))
-first_at next (g ∷ globals) i lt = by (is_procedure g) i lt (first_at next globals) (first_at (suc next) globals)
-  where
-    by : (b : Bool) (i : ℕ) → i < length (cond b (g ∷ filter is_procedure globals) (filter is_procedure globals))
-        → ((i : ℕ) → i < length (filter is_procedure globals) → slice_get (first_closures next globals) i ≡ Some (record { lam = next + i; scope = [] }))
-        → ((i : ℕ) → i < length (filter is_procedure globals) → slice_get (first_closures (suc next) globals) i ≡ Some (record { lam = suc next + i; scope = [] }))
-        → slice_get (if b then record { lam = next; scope = [] } ∷ first_closures (suc next) globals else first_closures next globals) i ≡ Some (record { lam = next + i; scope = [] })
-    by false i lt f g = f i lt
-    by true zero lt f g = ap (λ l. Some (record { lam = l; scope = [] })) (omega arith)
-    by true (suc i) lt f g = g i (omega (arith, lt)) ∙ ap (λ l. Some (record { lam = l; scope = [] })) (omega arith)
-
--- the item that passes a test behind so many that do
-record Ranked (ops : List OpInfo) (j : ℕ) : Type 0 where
-  at : ℕ
-  info : OpInfo
-  there : slice_get ops at ≡ Some info
-  has : info.default ≡ true
-  before : length (filter has_default (take at ops)) ≡ j
-
-ranked : (ops : List OpInfo) (j : ℕ) → j < length (filter has_default ops) → Ranked ops j
-ranked [] j lt = absurd (omega (arith, lt))
-ranked (o ∷ ops) j lt = by o.default refl j lt (ranked ops)
-  where
-    by : (b : Bool) → o.default ≡ b → (j : ℕ) → j < length (cond b (o ∷ filter has_default ops) (filter has_default ops)) → ((j : ℕ) → j < length (filter has_default ops) → Ranked ops j) → Ranked (o ∷ ops) j
-    by true e zero lt f = record { at = 0; info = o; there = refl; has = e; before = refl }
-    by true e (suc j) lt f = let r = f j (omega (arith, lt)) in record { at = suc r.at; info = r.info; there = r.there; has = r.has; before = ap (λ b. length (cond b (o ∷ filter has_default (take r.at ops)) (filter has_default (take r.at ops)))) e ∙ ap suc r.before }
-    by false e j lt f = let r = f j lt in record { at = suc r.at; info = r.info; there = r.there; has = r.has; before = ap (λ b. length (cond b (o ∷ filter has_default (take r.at ops)) (filter has_default (take r.at ops)))) e ∙ r.before }
-
-zero_plus : (n : ℕ) → 0 + n ≡ n
-zero_plus n = omega arith
-
-gap : (g l : ℕ) → g ≤ l → (j : ℕ) × (l ≡ g + j)
-gap zero l le = (l, omega arith)
-gap (suc g) zero le = absurd (omega (arith, le))
-gap (suc g) (suc l) le = let r = gap g l (omega (arith, le)) in (r.0, (let e = r.1 in omega (arith, e)))
 
 pub tallied : (Q : ℕ → Type 0) (xs : List ℕ) (n : ℕ) → AllByRecursion Q xs → 1 ≤ tally xs n → Q n
 tallied Q [] n h k = absurd (omega (arith, k))
@@ -112,32 +70,6 @@ module _ (x : Translation) (A : Arg → Type 0) (P : Term → Type 0) (R : Lam �
             (default_root (default_of x.unit r.at) (cps_default_of x.cps r.at) (record { lam = global_lams x.cps + j; scope = [] }) (λ f lam. Q.default r.at f lam)
             (ap (λ o. option_map_or (default_at x.cps r.at) o None) r.there ∙ ap (λ b. if b then Some (record { lam = global_lams x.cps + length (filter has_default (take r.at x.cps.shared.ops.items)); scope = [] }) else None) r.has ∙ ap (λ n. Some (record { lam = global_lams x.cps + n; scope = [] })) r.before)
             (tr.defaults r.at))
-
-    -- the default of an operation stands for the procedure that the unit has for it
-    pub record DefaultAt (l : ℕ) : Type 0 where
-      pub at : ℕ
-      pub info : OpInfo
-      pub f : Procedure
-      pub there : slice_get x.cps.shared.ops.items at ≡ Some info
-      pub has : info.default ≡ true
-      pub is : default_of x.unit at ≡ Some f
-      pub as_root : LamAt x (ConvertsWithin x tr.depth) f.form [] f.params f.body l
-
-    procedure_found : (p : Option Procedure) (q : Option Closure) (c : Closure) → q ≡ Some c → DefaultAs x (ConvertsWithin x tr.depth) p q → (f : Procedure) × (p ≡ Some f) × RootAs x (ConvertsWithin x tr.depth) f c
-    procedure_found None None c e h = none_some c e
-    procedure_found (Some f) (Some d) c e h = (f, refl, subst (RootAs x (ConvertsWithin x tr.depth) f) (some_same d c e) h)
-    procedure_found None (Some d) c e h = absurd h
-    procedure_found (Some f) None c e h = absurd h
-
-    pub default_found : (l : ℕ) → global_lams x.cps ≤ l → l < first_lams x.cps → DefaultAt l
-    default_found l le lt = let j = gap (global_lams x.cps) l le in behind l j.0 j.1 (ranked x.cps.shared.ops.items j.0 (omega (arith, lt, j.1)))
-      where
-        behind : (l j : ℕ) → l ≡ global_lams x.cps + j → Ranked x.cps.shared.ops.items j → DefaultAt l
-        behind l j e r =
-            let p = procedure_found (default_of x.unit r.at) (cps_default_of x.cps r.at) (record { lam = global_lams x.cps + j; scope = [] })
-            (ap (λ o. option_map_or (default_at x.cps r.at) o None) r.there ∙ ap (λ b. if b then Some (record { lam = global_lams x.cps + length (filter has_default (take r.at x.cps.shared.ops.items)); scope = [] }) else None) r.has ∙ ap (λ n. Some (record { lam = global_lams x.cps + n; scope = [] })) r.before)
-            (tr.defaults r.at) in
-            subst DefaultAt (sym e) (record { at = r.at; info = r.info; f = p.0; there = r.there; has = r.has; is = p.1; as_root = p.2 })
 
     lams_first : (n : ℕ) (lams : List Lam) → ((l : ℕ) (lam : Lam) → l < n → slice_get lams l ≡ Some lam → Good x A P R lam.body) → AllByRecursion (λ p. Good x A P R p.at) (map (lambda_part []) (take n lams))
     lams_first zero lams f = tt

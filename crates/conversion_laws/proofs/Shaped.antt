@@ -35,7 +35,8 @@ use Rattle.cps_order.proofs.Reached.{flat_some, flat_has}
 use Rattle.conversion_laws.specs.Owed.{IsOwed, named_lams}
 use Rattle.conversion_laws.specs.Shapes.{AreShaped, ConvertedIsShaped}
 use Rattle.conversion_laws.proofs.Visits.{Table, FormTable, LamIs, Full, variables_count, assigned_count}
-use Rattle.conversion_laws.proofs.Roots.{RootTable, tallied, first_good, default_found, all_full}
+use Rattle.conversion_laws.proofs.Roots.{RootTable, tallied, first_good, all_full}
+use Rattle.conversion_laws.proofs.Firsts.{default_found}
 use Rattle.conversion_laws.proofs.Defaults.{default_self}
 use Rattle.conversion_laws.proofs.Widths.{node_narrow}
 use Rattle.conversion_laws.proofs.Shapes.{FineArg, FineTerm, FineLam, no_proc, fine_table}
@@ -258,7 +259,7 @@ module _ (x : Translation) (w : IsWholeUnit x.unit) (small : limit_of x.unit ≡
       let d = dropped_there (global_lams x.cps) (take (first_lams x.cps) x.cps.lams.items) i lam e in
       let t = taken_there (first_lams x.cps) x.cps.lams.items d.0 lam d.2 in
       let at_j = d.1 in
-      let r = default_found x A P R table form_table root_table tr d.0 (omega (arith, at_j)) t.1 in
+      let r = default_found x tr d.0 (omega (arith, at_j)) t.1 in
       let self = default_self x.unit.shared r.at 0 r.info x.unit.forms.items r.f (subst (λ (s : Shared). slice_get s.ops.items r.at ≡ Some r.info) tr.shared r.there) r.has w.definitions.forms r.is in
       let z = r.as_root in
       let count : length z.0.params ≡ length r.f.params = sym (variables_count x A P R z.0.params) ∙ assigned_count x A P R (adding z.0.params []) r.f.params (variables z.0.params) z.0.body z.2.start z.2.assigned in
