@@ -122,7 +122,7 @@ module _ (x : Translation) where
     adding_in [] bound h f e = f e
     adding_in (v ∷ vars) bound h f e = adding_in vars (v.0 ∷ bound) h.1 (λ q. or_split (v.0 == y) (is_in bound y) q h.0 f) e
 
-    ready_ok : (form key : ℕ) (bound : List ℕ) (a : Arg) → (is_in bound y ≡ true → Q) → ready_at x form key ≡ Some a → IsBound bound a → ArgOk a
+    pub ready_ok : (form key : ℕ) (bound : List ℕ) (a : Arg) → (is_in bound y ≡ true → Q) → ready_at x form key ≡ Some a → IsBound bound a → ArgOk a
     ready_ok form key bound (Argument.Var v) f e b = λ q. f (subst (λ n. is_in bound n ≡ true) (eqb-true v.0 y q) b)
     ready_ok form key bound (Argument.Const c) f e b = tt
     ready_ok form key bound (Argument.Global g) f e b = tt
