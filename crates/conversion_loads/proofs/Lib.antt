@@ -1,3 +1,4 @@
 pub mod Free
 pub mod Opened
 pub mod Sums
+pub mod Params
