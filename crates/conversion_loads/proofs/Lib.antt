@@ -2,3 +2,4 @@ pub mod Free
 pub mod Opened
 pub mod Sums
 pub mod Params
+pub mod Weigh
