@@ -28,7 +28,7 @@ abbrev has_default : OpInfo → Bool
 has_default info = info.default
 
 -- the closures of the globals' procedures have their numbers in order
-first_at : (next : ℕ) (globals : List Global1) (i : ℕ) → i < length (filter is_procedure globals) → slice_get (first_closures next globals) i ≡ Some (record { lam = next + i; scope = [] })
+pub first_at : (next : ℕ) (globals : List Global1) (i : ℕ) → i < length (filter is_procedure globals) → slice_get (first_closures next globals) i ≡ Some (record { lam = next + i; scope = [] })
 first_at next [] i lt = absurd (omega (arith, lt))
 first_at next (g ∷ globals) i lt = by (is_procedure g) i lt (first_at next globals) (first_at (suc next) globals)
   where
@@ -41,14 +41,14 @@ first_at next (g ∷ globals) i lt = by (is_procedure g) i lt (first_at next glo
     by true (suc i) lt f g = g i (omega (arith, lt)) ∙ ap (λ l. Some (record { lam = l; scope = [] })) (omega arith)
 
 -- the item that passes a test behind so many that do
-record Ranked (ops : List OpInfo) (j : ℕ) : Type 0 where
-  at : ℕ
-  info : OpInfo
-  there : slice_get ops at ≡ Some info
-  has : info.default ≡ true
-  before : length (filter has_default (take at ops)) ≡ j
+pub record Ranked (ops : List OpInfo) (j : ℕ) : Type 0 where
+  pub at : ℕ
+  pub info : OpInfo
+  pub there : slice_get ops at ≡ Some info
+  pub has : info.default ≡ true
+  pub before : length (filter has_default (take at ops)) ≡ j
 
-ranked : (ops : List OpInfo) (j : ℕ) → j < length (filter has_default ops) → Ranked ops j
+pub ranked : (ops : List OpInfo) (j : ℕ) → j < length (filter has_default ops) → Ranked ops j
 ranked [] j lt = absurd (omega (arith, lt))
 ranked (o ∷ ops) j lt = by o.default refl j lt (ranked ops)
   where
@@ -57,10 +57,10 @@ ranked (o ∷ ops) j lt = by o.default refl j lt (ranked ops)
     by true e (suc j) lt f = let r = f j (omega (arith, lt)) in record { at = suc r.at; info = r.info; there = r.there; has = r.has; before = ap (λ b. length (cond b (o ∷ filter has_default (take r.at ops)) (filter has_default (take r.at ops)))) e ∙ ap suc r.before }
     by false e j lt f = let r = f j lt in record { at = suc r.at; info = r.info; there = r.there; has = r.has; before = ap (λ b. length (cond b (o ∷ filter has_default (take r.at ops)) (filter has_default (take r.at ops)))) e ∙ r.before }
 
-zero_plus : (n : ℕ) → 0 + n ≡ n
+pub zero_plus : (n : ℕ) → 0 + n ≡ n
 zero_plus n = omega arith
 
-gap : (g l : ℕ) → g ≤ l → (j : ℕ) × (l ≡ g + j)
+pub gap : (g l : ℕ) → g ≤ l → (j : ℕ) × (l ≡ g + j)
 gap zero l le = (l, omega arith)
 gap (suc g) zero le = absurd (omega (arith, le))
 gap (suc g) (suc l) le = let r = gap g l (omega (arith, le)) in (r.0, (let e = r.1 in omega (arith, e)))

@@ -3,3 +3,4 @@ pub mod Opened
 pub mod Sums
 pub mod Params
 pub mod Weigh
+pub mod Trees
