@@ -20,7 +20,7 @@ use Rattle.cps_ir.proofs.ProperLists.{some_same, none_some, each_more, each_join
 use Rattle.cps_conversion.specs.Conversion.{Translation, Stands, ConvertsWithin, RootAs, RootsAs, DefaultAs, IsTranslated}
 use Rattle.cps_order.specs.Order.{one, tally, IsOrdered}
 use Rattle.cps_order.proofs.Reached.{all_walked}
-use Rattle.conversion_laws.proofs.Firsts.{has_default, first_at, Ranked, ranked, zero_plus, gap}
+pub use Rattle.conversion_laws.proofs.Firsts.{has_default, first_at, Ranked, ranked, zero_plus, gap}
 use Rattle.conversion_laws.proofs.Visits.{Table, FormTable, Full, FullAt, Good, lam_good, within_good, forms_good}
 
 pub tallied : (Q : ℕ → Type 0) (xs : List ℕ) (n : ℕ) → AllByRecursion Q xs → 1 ≤ tally xs n → Q n

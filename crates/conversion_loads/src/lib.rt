@@ -1,0 +1,2 @@
+//! Laws of the loads of programs that stand for a unit.
+#![tactic(auto)]
