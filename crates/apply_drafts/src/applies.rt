@@ -1,6 +1,6 @@
 //! The block that makes calls of what isn't known.
 
-ghost use Rattle.std.specs.Prelude.{◌≡◌, ◌≤◌, [], ◌∷◌, map, pos, OnOk};
+ghost use Rattle.std.specs.Prelude.{◌≡◌, ◌+◌, ◌≤◌, [], ◌∷◌, map, pos, OnOk};
 ghost use Rattle.word_ir.specs.declared.operands.Operand.TheVariants as operand;
 ghost use Rattle.word_ir.specs.declared.words.WordOp.TheVariants as op;
 ghost use Rattle.word_ir.specs.declared.words.WordEnd.TheVariants as last;
@@ -12,8 +12,8 @@ ghost use Rattle.word_drafts.specs.Drafts.{IsProper, Writes, WritesBeside};
 ghost use Rattle.frame_drafts.specs.Ends.{ended};
 ghost use Rattle.apply_drafts.specs.Arms.{called_object, rare_code};
 
-use crate::kills::{kill_at, INNER};
-use crate::passes::{look_at, of, pass_on, passed};
+use crate::kills::{INNER, kill_at};
+use crate::passes::{look_at, pass_on, passed};
 use entry_drafts::{ahead, arrived, unless};
 use frame_drafts::jump;
 use std::alloc::Global;
@@ -29,7 +29,7 @@ fn object(draft: &mut Draft, alloc: Global, t: u32, apply: u32) -> Result<(), Me
 {
     draft.line(WordOp::Load {
         to: Var(t + 8),
-        base: of(t + 1),
+        base: Operand::Var(Var(t + 1)),
         offset: 6,
     })?;
     let args = passed(alloc, t, t + 8)?;
@@ -46,7 +46,7 @@ fn none(draft: &mut Draft, alloc: Global, t: u32, look: u32) -> Result<(), Memor
     draft.make(
         alloc,
         Arith::Add,
-        of(t + 1),
+        Operand::Var(Var(t + 1)),
         Operand::Word(10),
         Var(t + 9),
     )?;
@@ -62,7 +62,7 @@ fn methods(draft: &mut Draft, alloc: Global, t: u32, look: u32) -> Result<(), Me
 {
     draft.line(WordOp::Load {
         to: Var(t + 9),
-        base: of(t + 2),
+        base: Operand::Var(Var(t + 2)),
         offset: 2,
     })?;
     look_at(draft, alloc, t, look)?;
@@ -76,16 +76,22 @@ fn operation(draft: &mut Draft, alloc: Global, t: u32, look: u32) -> Result<(), 
     ensures { OnOk result (Writes (ended (operation_code t look)) draft.old draft.new) }
 {
     let zero = Operand::Word(0);
-    unless(draft, alloc, Test::Eq, of(t), zero, 2)?;
+    unless(draft, alloc, Test::Eq, Operand::Var(Var(t)), zero, 2)?;
     let without = ahead(draft, 2)?;
-    draft.check(alloc, Test::TagIs(2), of(t + 2), zero, without)?;
+    draft.check(
+        alloc,
+        Test::TagIs(2),
+        Operand::Var(Var(t + 2)),
+        zero,
+        without,
+    )?;
     draft.line(WordOp::Load {
         to: Var(t + 8),
-        base: of(t + 2),
+        base: Operand::Var(Var(t + 2)),
         offset: -2,
     })?;
     let header = Operand::Word(0x21);
-    draft.check(alloc, Test::Eq, of(t + 8), header, without)?;
+    draft.check(alloc, Test::Eq, Operand::Var(Var(t + 8)), header, without)?;
     methods(draft, alloc, t, look)?;
     arrived(draft, without)?;
     none(draft, alloc, t, look)?;
@@ -98,13 +104,20 @@ fn escape(draft: &mut Draft, alloc: Global, t: u32, kill: u32) -> Result<(), Mem
     requires few { t ≤ 4294967264 }
     ensures { OnOk result (Writes (ended (escape_code t kill)) draft.old draft.new) }
 {
-    draft.need(alloc, Test::Eq, of(t), Operand::Word(1), 2)?;
+    draft.need(alloc, Test::Eq, Operand::Var(Var(t)), Operand::Word(1), 2)?;
     draft.line(WordOp::Load {
         to: Var(t + 8),
-        base: of(t + 1),
+        base: Operand::Var(Var(t + 1)),
         offset: 2,
     })?;
-    unless(draft, alloc, Test::Eq, of(t + 8), Operand::Word(0), 10)?;
+    unless(
+        draft,
+        alloc,
+        Test::Eq,
+        Operand::Var(Var(t + 8)),
+        Operand::Word(0),
+        10,
+    )?;
     draft.line(WordOp::Load {
         to: Var(t + 9),
         base: INNER,
@@ -121,7 +134,7 @@ fn rare(draft: &mut Draft, alloc: Global, t: u32, look: u32, kill: u32) -> Resul
     ensures { OnOk result (Writes (ended (rare_code t look kill)) draft.old draft.new) }
 {
     let arm = ahead(draft, 7)?;
-    let header = of(t + 7);
+    let header = Operand::Var(Var(t + 7));
     draft.check_not(alloc, Test::Eq, header, Operand::Word(0x25), arm)?;
     draft.need(alloc, Test::Eq, header, Operand::Word(0x2D), 1)?;
     escape(draft, alloc, t, kill)?;
@@ -137,7 +150,7 @@ fn by_header(draft: &mut Draft, alloc: Global, t: u32, header: u32, arm: u32) ->
     ensures { OnOk result (WritesBeside (by_header t header) arm draft.old draft.new) }
 {
     let word = Operand::Word(header);
-    draft.check_not(alloc, Test::Eq, of(t + 7), word, arm)?;
+    draft.check_not(alloc, Test::Eq, Operand::Var(Var(t + 7)), word, arm)?;
     Ok(())
 }
 
@@ -156,10 +169,10 @@ pub fn apply_block(
     ensures { OnOk result (Writes (ended (apply_block t apply look kill)) draft.old draft.new) }
 {
     let zero = Operand::Word(0);
-    draft.need(alloc, Test::TagIs(2), of(t + 1), zero, 1)?;
+    draft.need(alloc, Test::TagIs(2), Operand::Var(Var(t + 1)), zero, 1)?;
     draft.line(WordOp::Load {
         to: Var(t + 7),
-        base: of(t + 1),
+        base: Operand::Var(Var(t + 1)),
         offset: -2,
     })?;
     let code = ahead(draft, 17)?;

@@ -1,11 +1,10 @@
 //! CATCHes are opened and closed.
 
-ghost use Rattle.std.specs.Prelude.{◌≡◌, ◌≤◌, OnOk};
+ghost use Rattle.std.specs.Prelude.{◌≡◌, ◌+◌, ◌≤◌, OnOk};
 ghost use Rattle.frame_dispatch.specs.Codes.{catch_close, catch_open, open_escape};
 ghost use Rattle.word_drafts.specs.Drafts.{IsProper, Writes};
 
 use crate::kills::INNER;
-use crate::passes::of;
 use frame_drafts::push_frame;
 use std::alloc::Global;
 use t_base::{Memory, Var};
@@ -19,12 +18,12 @@ fn open_escape(draft: &mut Draft, alloc: Global, t: u32, to: Var) -> Result<(), 
     ensures { OnOk result (Writes (open_escape t to) draft.old draft.new) }
 {
     draft.line(WordOp::Store {
-        base: of(t),
+        base: Operand::Var(Var(t)),
         offset: 0,
         from: Operand::Word(0x2D),
     })?;
     draft.line(WordOp::Store {
-        base: of(t),
+        base: Operand::Var(Var(t)),
         offset: 4,
         from: Operand::Slot(0),
     })?;
@@ -34,11 +33,17 @@ fn open_escape(draft: &mut Draft, alloc: Global, t: u32, to: Var) -> Result<(), 
         offset: 0,
     })?;
     draft.line(WordOp::Store {
-        base: of(t),
+        base: Operand::Var(Var(t)),
         offset: 8,
-        from: of(t + 1),
+        from: Operand::Var(Var(t + 1)),
     })?;
-    draft.make(alloc, Arith::Add, of(t), Operand::Word(2), to)?;
+    draft.make(
+        alloc,
+        Arith::Add,
+        Operand::Var(Var(t)),
+        Operand::Word(2),
+        to,
+    )?;
     draft.line(WordOp::Store {
         base: INNER,
         offset: 0,
@@ -77,19 +82,19 @@ pub fn catch_close(draft: &mut Draft, t: u32) -> Result<(), Memory>
         offset: 0,
     })?;
     draft.line(WordOp::Store {
-        base: of(t),
+        base: Operand::Var(Var(t)),
         offset: 2,
         from: Operand::Word(0),
     })?;
     draft.line(WordOp::Load {
         to: Var(t + 1),
-        base: of(t),
+        base: Operand::Var(Var(t)),
         offset: 6,
     })?;
     draft.line(WordOp::Store {
         base: INNER,
         offset: 0,
-        from: of(t + 1),
+        from: Operand::Var(Var(t + 1)),
     })?;
     draft.line(WordOp::Pop { words: 2 })?;
     Ok(())

@@ -1,6 +1,6 @@
 //! The loop that ends escapes.
 
-ghost use Rattle.std.specs.Prelude.{◌≡◌, ◌≤◌, [], ◌∷◌, IfOk, OnOk};
+ghost use Rattle.std.specs.Prelude.{◌≡◌, ◌+◌, ◌≤◌, [], ◌∷◌, IfOk, OnOk};
 ghost use Rattle.select_rows.specs.Macros.{of_var};
 ghost use Rattle.word_ir.specs.declared.words.WordEnd.TheVariants as last;
 ghost use Rattle.word_trees.specs.Trees.{Close};
@@ -8,7 +8,6 @@ ghost use Rattle.frame_dispatch.specs.Codes.{kill_code, kill_params, leave_code}
 ghost use Rattle.word_drafts.specs.Drafts.{IsProper, Writes};
 ghost use Rattle.frame_drafts.specs.Ends.{ended};
 
-use crate::passes::of;
 use entry_drafts::{ahead, arrived, params_from};
 use frame_drafts::jump;
 use std::alloc::Global;
@@ -39,9 +38,9 @@ pub(crate) fn kill_at(
     ensures { OnOk result (Writes (ended (Close (last.Jump kill (of_var called ∷ of_var value ∷ of_var ends ∷ [])))) draft.old draft.new) }
 {
     let mut args = Vec::new(alloc);
-    args.push(of(called))?;
-    args.push(of(value))?;
-    args.push(of(ends))?;
+    args.push(Operand::Var(Var(called)))?;
+    args.push(Operand::Var(Var(value)))?;
+    args.push(Operand::Var(Var(ends)))?;
     jump(draft, alloc, kill, Operands::from_vec(args))?;
     Ok(())
 }
@@ -52,9 +51,9 @@ fn give(draft: &mut Draft, alloc: Global, code: u32, value: u32) -> Result<(), M
     ensures { OnOk result (Writes (ended (Close (last.Enter (of_var code) (of_var value ∷ [])))) draft.old draft.new) }
 {
     let mut args = Vec::new(alloc);
-    args.push(of(value))?;
+    args.push(Operand::Var(Var(value)))?;
     let args = Operands::from_vec(args);
-    let code = of(code);
+    let code = Operand::Var(Var(code));
     draft.close(alloc, WordEnd::Enter { code, args })?;
     Ok(())
 }
@@ -68,9 +67,11 @@ fn leave(draft: &mut Draft, alloc: Global, t: u32) -> Result<(), Memory>
     draft.line(WordOp::Store {
         base: INNER,
         offset: 0,
-        from: of(t + 4),
+        from: Operand::Var(Var(t + 4)),
     })?;
-    draft.line(WordOp::Reset { to: of(t + 3) })?;
+    draft.line(WordOp::Reset {
+        to: Operand::Var(Var(t + 3)),
+    })?;
     draft.line(WordOp::Load {
         to: Var(t + 5),
         base: Operand::Slot(0),
@@ -90,21 +91,27 @@ pub fn kill_loop(draft: &mut Draft, alloc: Global, t: u32, kill: u32) -> Result<
 {
     draft.line(WordOp::Load {
         to: Var(t + 3),
-        base: of(t + 2),
+        base: Operand::Var(Var(t + 2)),
         offset: 2,
     })?;
     draft.line(WordOp::Store {
-        base: of(t + 2),
+        base: Operand::Var(Var(t + 2)),
         offset: 2,
         from: Operand::Word(0),
     })?;
     draft.line(WordOp::Load {
         to: Var(t + 4),
-        base: of(t + 2),
+        base: Operand::Var(Var(t + 2)),
         offset: 6,
     })?;
     let last = ahead(draft, 1)?;
-    draft.check_not(alloc, Test::Eq, of(t + 2), of(t), last)?;
+    draft.check_not(
+        alloc,
+        Test::Eq,
+        Operand::Var(Var(t + 2)),
+        Operand::Var(Var(t)),
+        last,
+    )?;
     kill_at(draft, alloc, kill, t, t + 1, t + 4)?;
     arrived(draft, last)?;
     leave(draft, alloc, t)?;

@@ -1,6 +1,6 @@
 //! The loop over the methods of an object's template.
 
-ghost use Rattle.std.specs.Prelude.{◌≡◌, ◌≤◌, IfOk, OnOk};
+ghost use Rattle.std.specs.Prelude.{◌≡◌, ◌+◌, ◌≤◌, IfOk, OnOk};
 ghost use Rattle.word_ir.specs.declared.words.Arith.TheVariants as kind;
 ghost use Rattle.select_rows.specs.Macros.{of_var, word, var};
 ghost use Rattle.select_rows.specs.Codes.{make};
@@ -8,7 +8,7 @@ ghost use Rattle.frame_dispatch.specs.Codes.{default_code, found_code, look_at, 
 ghost use Rattle.word_drafts.specs.Drafts.{IsProper, Writes};
 ghost use Rattle.frame_drafts.specs.Ends.{ended};
 
-use crate::passes::{enter, look_at, of};
+use crate::passes::{enter, look_at};
 use entry_drafts::{ahead, arrived, params_from, unless};
 use std::alloc::Global;
 use t_base::{Memory, Var, Vars};
@@ -30,7 +30,7 @@ fn found(draft: &mut Draft, alloc: Global, t: u32) -> Result<(), Memory>
 {
     draft.line(WordOp::Load {
         to: Var(t + 9),
-        base: of(t + 7),
+        base: Operand::Var(Var(t + 7)),
         offset: 4,
     })?;
     enter(draft, alloc, t, t + 9, t + 2)?;
@@ -45,10 +45,17 @@ fn default(draft: &mut Draft, alloc: Global, t: u32) -> Result<(), Memory>
 {
     draft.line(WordOp::Load {
         to: Var(t + 9),
-        base: of(t + 1),
+        base: Operand::Var(Var(t + 1)),
         offset: 6,
     })?;
-    unless(draft, alloc, Test::Eq, of(t + 9), Operand::Word(0), 11)?;
+    unless(
+        draft,
+        alloc,
+        Test::Eq,
+        Operand::Var(Var(t + 9)),
+        Operand::Word(0),
+        11,
+    )?;
     enter(draft, alloc, t, t + 9, t + 1)?;
     Ok(())
 }
@@ -62,7 +69,7 @@ fn next(draft: &mut Draft, alloc: Global, t: u32, look: u32) -> Result<(), Memor
     draft.make(
         alloc,
         Arith::Add,
-        of(t + 7),
+        Operand::Var(Var(t + 7)),
         Operand::Word(8),
         Var(t + 9),
     )?;
@@ -79,14 +86,20 @@ pub fn look_loop(draft: &mut Draft, alloc: Global, t: u32, look: u32) -> Result<
 {
     draft.line(WordOp::Load {
         to: Var(t + 8),
-        base: of(t + 7),
+        base: Operand::Var(Var(t + 7)),
         offset: 0,
     })?;
     let method = ahead(draft, 3)?;
     let last = ahead(draft, 4)?;
-    draft.check_not(alloc, Test::Eq, of(t + 8), of(t + 1), method)?;
+    draft.check_not(
+        alloc,
+        Test::Eq,
+        Operand::Var(Var(t + 8)),
+        Operand::Var(Var(t + 1)),
+        method,
+    )?;
     let zero = Operand::Word(0);
-    draft.check_not(alloc, Test::Eq, of(t + 8), zero, last)?;
+    draft.check_not(alloc, Test::Eq, Operand::Var(Var(t + 8)), zero, last)?;
     next(draft, alloc, t, look)?;
     arrived(draft, method)?;
     found(draft, alloc, t)?;

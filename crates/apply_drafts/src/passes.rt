@@ -1,6 +1,6 @@
 //! What a call passes on.
 
-ghost use Rattle.std.specs.Prelude.{◌≡◌, ◌≤◌, [], ◌∷◌, IfOk, OnOk};
+ghost use Rattle.std.specs.Prelude.{◌≡◌, ◌+◌, ◌≤◌, [], ◌∷◌, IfOk, OnOk};
 ghost use Rattle.select_rows.specs.Macros.{of_var};
 ghost use Rattle.frame_calls.specs.Codes.{pass_on};
 ghost use Rattle.frame_dispatch.specs.Codes.{look_at, passed};
@@ -16,21 +16,14 @@ use t_base::{Memory, Var};
 use word_drafts::Draft;
 use word_ir::{Operand, Operands, WordEnd, WordOp};
 
-/// A variable as an operand.
-pub(crate) fn of(number: u32) -> Operand
-    ensures { result ≡ of_var number }
-{
-    Operand::Var(Var(number))
-}
-
 /// The count, a procedure and the first five operands.
 pub(crate) fn passed(alloc: Global, t: u32, procedure: u32) -> Result<Vec<Operand>, Memory>
     requires { t ≤ 4294967264 }
     ensures { IfOk result (λ xs. xs.items ≡ passed t procedure []) }
 {
     let mut xs = Vec::new(alloc);
-    xs.push(of(t))?;
-    xs.push(of(procedure))?;
+    xs.push(Operand::Var(Var(t)))?;
+    xs.push(Operand::Var(Var(procedure)))?;
     push_params(&mut xs, t + 2, 5)?;
     Ok(xs)
 }
@@ -48,24 +41,19 @@ pub(crate) fn enter(
     ensures { OnOk result (Writes (ended (Close (last.Enter (of_var code) (passed t procedure [])))) draft.old draft.new) }
 {
     let args = Operands::from_vec(passed(alloc, t, procedure)?);
-    let code = of(code);
+    let code = Operand::Var(Var(code));
     draft.close(alloc, WordEnd::Enter { code, args })?;
     Ok(())
 }
 
 /// To the loop over methods, with the address of the first one.
-pub(crate) fn look_at(
-    draft: &mut Draft,
-    alloc: Global,
-    t: u32,
-    look: u32,
-) -> Result<(), Memory>
+pub(crate) fn look_at(draft: &mut Draft, alloc: Global, t: u32, look: u32) -> Result<(), Memory>
     requires proper { IsProper draft.old }
     requires few { t ≤ 4294967264 }
     ensures { OnOk result (Writes (ended (look_at t look)) draft.old draft.new) }
 {
     let mut args = passed(alloc, t, t + 1)?;
-    args.push(of(t + 9))?;
+    args.push(Operand::Var(Var(t + 9)))?;
     jump(draft, alloc, look, Operands::from_vec(args))?;
     Ok(())
 }
@@ -78,7 +66,7 @@ pub(crate) fn pass_on(draft: &mut Draft, alloc: Global, t: u32) -> Result<(), Me
 {
     draft.line(WordOp::Load {
         to: Var(t + 8),
-        base: of(t + 1),
+        base: Operand::Var(Var(t + 1)),
         offset: 2,
     })?;
     enter(draft, alloc, t, t + 8, t + 1)?;
