@@ -10,7 +10,7 @@ use Rattle.frame_dispatch.specs.Codes.{by_header, operation_code, escape_code}
 
 -- what an object calls is its third word
 abbrev pub called_object : ℕ → ℕ → Tree
-called_object t apply = Do (op.Load (var (t + 8)) (of_var (t + 1)) (pos 6)) (Close (last.Jump apply (of_var t ∷ of_var (t + 8) ∷ map operand.Var (params_from (t + 2) 5))))
+called_object t apply = Do (op.Load (var (t + 9)) (of_var (t + 1)) (pos 6)) (Close (last.Jump apply (of_var t ∷ of_var (t + 9) ∷ map operand.Var (params_from (t + 2) 5))))
 
 -- operations and escapes; all else is no procedure
 abbrev pub rare_code : ℕ → ℕ → ℕ → Tree

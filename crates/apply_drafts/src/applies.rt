@@ -28,11 +28,11 @@ fn object(draft: &mut Draft, alloc: Global, t: u32, apply: u32) -> Result<(), Me
     ensures { OnOk result (Writes (ended (called_object t apply)) draft.old draft.new) }
 {
     draft.line(WordOp::Load {
-        to: Var(t + 8),
+        to: Var(t + 9),
         base: Operand::Var(Var(t + 1)),
         offset: 6,
     })?;
-    let args = passed(alloc, t, t + 8)?;
+    let args = passed(alloc, t, t + 9)?;
     jump(draft, alloc, apply, Operands::from_vec(args))?;
     Ok(())
 }
@@ -48,9 +48,9 @@ fn none(draft: &mut Draft, alloc: Global, t: u32, look: u32) -> Result<(), Memor
         Arith::Add,
         Operand::Var(Var(t + 1)),
         Operand::Word(10),
-        Var(t + 9),
+        Var(t + 12),
     )?;
-    look_at(draft, alloc, t, look)?;
+    look_at(draft, alloc, t, t + 12, look)?;
     Ok(())
 }
 
@@ -58,14 +58,14 @@ fn none(draft: &mut Draft, alloc: Global, t: u32, look: u32) -> Result<(), Memor
 fn methods(draft: &mut Draft, alloc: Global, t: u32, look: u32) -> Result<(), Memory>
     requires proper { IsProper draft.old }
     requires few { t ≤ 4294967264 }
-    ensures { OnOk result (Writes (ended (Do (op.Load (var (t + 9)) (of_var (t + 2)) (pos 2)) (look_at t look))) draft.old draft.new) }
+    ensures { OnOk result (Writes (ended (Do (op.Load (var (t + 11)) (of_var (t + 2)) (pos 2)) (look_at t (t + 11) look))) draft.old draft.new) }
 {
     draft.line(WordOp::Load {
-        to: Var(t + 9),
+        to: Var(t + 11),
         base: Operand::Var(Var(t + 2)),
         offset: 2,
     })?;
-    look_at(draft, alloc, t, look)?;
+    look_at(draft, alloc, t, t + 11, look)?;
     Ok(())
 }
 
@@ -86,12 +86,12 @@ fn operation(draft: &mut Draft, alloc: Global, t: u32, look: u32) -> Result<(), 
         without,
     )?;
     draft.line(WordOp::Load {
-        to: Var(t + 8),
+        to: Var(t + 10),
         base: Operand::Var(Var(t + 2)),
         offset: -2,
     })?;
     let header = Operand::Word(0x21);
-    draft.check(alloc, Test::Eq, Operand::Var(Var(t + 8)), header, without)?;
+    draft.check(alloc, Test::Eq, Operand::Var(Var(t + 10)), header, without)?;
     methods(draft, alloc, t, look)?;
     arrived(draft, without)?;
     none(draft, alloc, t, look)?;
@@ -106,7 +106,7 @@ fn escape(draft: &mut Draft, alloc: Global, t: u32, kill: u32) -> Result<(), Mem
 {
     draft.need(alloc, Test::Eq, Operand::Var(Var(t)), Operand::Word(1), 2)?;
     draft.line(WordOp::Load {
-        to: Var(t + 8),
+        to: Var(t + 13),
         base: Operand::Var(Var(t + 1)),
         offset: 2,
     })?;
@@ -114,16 +114,16 @@ fn escape(draft: &mut Draft, alloc: Global, t: u32, kill: u32) -> Result<(), Mem
         draft,
         alloc,
         Test::Eq,
-        Operand::Var(Var(t + 8)),
+        Operand::Var(Var(t + 13)),
         Operand::Word(0),
         10,
     )?;
     draft.line(WordOp::Load {
-        to: Var(t + 9),
+        to: Var(t + 14),
         base: INNER,
         offset: 0,
     })?;
-    kill_at(draft, alloc, kill, t + 1, t + 2, t + 9)?;
+    kill_at(draft, alloc, kill, t + 1, t + 2, t + 14)?;
     Ok(())
 }
 
@@ -155,7 +155,7 @@ fn by_header(draft: &mut Draft, alloc: Global, t: u32, header: u32, arm: u32) ->
 }
 
 /// The block that makes calls of what isn't known, where it has the number `apply` and the variables from t on as parameters; `look` and `kill` are the blocks of the
-/// loops over methods and over escapes. It binds variables from t + 7 on, fewer than 9. The only error is the want of memory.
+/// loops over methods and over escapes. It binds the variables from t + 7 to t + 14. The only error is the want of memory.
 pub fn apply_block(
     draft: &mut Draft,
     alloc: Global,

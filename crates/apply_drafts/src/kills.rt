@@ -82,7 +82,7 @@ fn leave(draft: &mut Draft, alloc: Global, t: u32) -> Result<(), Memory>
     Ok(())
 }
 
-/// The loop that ends escapes, whose block has the number `kill` and the variables from t on as parameters. It binds variables from t + 3 on, fewer than 4. The
+/// The loop that ends escapes, whose block has the number `kill` and the variables from t on as parameters. It binds the variables from t + 3 to t + 5. The
 /// only error is the want of memory.
 pub fn kill_loop(draft: &mut Draft, alloc: Global, t: u32, kill: u32) -> Result<(), Memory>
     requires proper { IsProper draft.old }

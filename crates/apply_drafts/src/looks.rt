@@ -44,7 +44,7 @@ fn default(draft: &mut Draft, alloc: Global, t: u32) -> Result<(), Memory>
     ensures { OnOk result (Writes (ended (default_code t)) draft.old draft.new) }
 {
     draft.line(WordOp::Load {
-        to: Var(t + 9),
+        to: Var(t + 10),
         base: Operand::Var(Var(t + 1)),
         offset: 6,
     })?;
@@ -52,11 +52,11 @@ fn default(draft: &mut Draft, alloc: Global, t: u32) -> Result<(), Memory>
         draft,
         alloc,
         Test::Eq,
-        Operand::Var(Var(t + 9)),
+        Operand::Var(Var(t + 10)),
         Operand::Word(0),
         11,
     )?;
-    enter(draft, alloc, t, t + 9, t + 1)?;
+    enter(draft, alloc, t, t + 10, t + 1)?;
     Ok(())
 }
 
@@ -64,20 +64,20 @@ fn default(draft: &mut Draft, alloc: Global, t: u32) -> Result<(), Memory>
 fn next(draft: &mut Draft, alloc: Global, t: u32, look: u32) -> Result<(), Memory>
     requires proper { IsProper draft.old }
     requires few { t ≤ 4294967264 }
-    ensures { OnOk result (Writes (ended (make kind.Add (of_var (t + 7)) (word 8) (var (t + 9)) (look_at t look))) draft.old draft.new) }
+    ensures { OnOk result (Writes (ended (make kind.Add (of_var (t + 7)) (word 8) (var (t + 11)) (look_at t (t + 11) look))) draft.old draft.new) }
 {
     draft.make(
         alloc,
         Arith::Add,
         Operand::Var(Var(t + 7)),
         Operand::Word(8),
-        Var(t + 9),
+        Var(t + 11),
     )?;
-    look_at(draft, alloc, t, look)?;
+    look_at(draft, alloc, t, t + 11, look)?;
     Ok(())
 }
 
-/// The loop over methods, whose block has the number `look` and the variables from t on as parameters. It binds variables from t + 8 on, fewer than 8. The only
+/// The loop over methods, whose block has the number `look` and the variables from t on as parameters. It binds the variables from t + 8 to t + 11. The only
 /// error is the want of memory.
 pub fn look_loop(draft: &mut Draft, alloc: Global, t: u32, look: u32) -> Result<(), Memory>
     requires proper { IsProper draft.old }

@@ -46,14 +46,20 @@ pub(crate) fn enter(
     Ok(())
 }
 
-/// To the loop over methods, with the address of the first one.
-pub(crate) fn look_at(draft: &mut Draft, alloc: Global, t: u32, look: u32) -> Result<(), Memory>
+/// To the loop over methods, with the address of the first one, which a variable holds.
+pub(crate) fn look_at(
+    draft: &mut Draft,
+    alloc: Global,
+    t: u32,
+    first: u32,
+    look: u32,
+) -> Result<(), Memory>
     requires proper { IsProper draft.old }
     requires few { t ≤ 4294967264 }
-    ensures { OnOk result (Writes (ended (look_at t look)) draft.old draft.new) }
+    ensures { OnOk result (Writes (ended (look_at t first look)) draft.old draft.new) }
 {
     let mut args = passed(alloc, t, t + 1)?;
-    args.push(Operand::Var(Var(t + 9)))?;
+    args.push(Operand::Var(Var(first)))?;
     jump(draft, alloc, look, Operands::from_vec(args))?;
     Ok(())
 }

@@ -98,8 +98,8 @@ pub fn method_entry(
     Ok(())
 }
 
-/// The entry of a builtin, which gives its value back; its parameters are the variables from t on. It binds variables from t + 7 on, fewer than 9. The only
-/// error is the want of memory.
+/// The entry of a builtin, which gives its value back; its parameters are the variables from t on. It binds variables from t + 7 to t + 16. The only error is the
+/// want of memory.
 pub fn builtin_entry(draft: &mut Draft, alloc: Global, t: u32, p: Prim) -> Result<(), Memory>
     requires proper { IsProper draft.old }
     requires few { t ≤ 4294967272 }
@@ -111,6 +111,9 @@ pub fn builtin_entry(draft: &mut Draft, alloc: Global, t: u32, p: Prim) -> Resul
     let mut args = Vec::new(alloc);
     push_params(&mut args, t + 2, count)?;
     prim(draft, alloc, p, args.as_slice(), t + 8, Var(t + 7))?;
-    give_back(draft, alloc, t + 8, Operand::Var(Var(t + 7)))?;
+    if let Prim::Error = p {
+        return Ok(());
+    }
+    give_back(draft, alloc, t + 16, Operand::Var(Var(t + 7)))?;
     Ok(())
 }
