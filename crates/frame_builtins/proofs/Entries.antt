@@ -72,7 +72,7 @@ module _ (words : Words) (sizes : Sizes) (l : Layout) (e : Escapes) (g : Ways) (
   to = var (t + 7)
 
   abbrev rest : Tree
-  rest = give_back (t + 8) (of_var (t + 7))
+  rest = give_back (t + 16) (of_var (t + 7))
 
   -- ---- another count
 
@@ -125,13 +125,23 @@ module _ (words : Words) (sizes : Sizes) (l : Layout) (e : Escapes) (g : Ways) (
     module _ (birth : ℕ) (older : List ℕ) (f : Frame) (target : WordBlock) (live : s.live ≡ birth ∷ older) (there : slice_get s.frames birth ≡ Some f) (found : slice_get words.blocks.items (g.begins f.back) ≡ Some target) (one : length target.params ≡ 1) (params : AreParameters t target.params) where
       given : (u : State) (v : Val) (x : Stamped) → u.live ≡ birth ∷ older → slice_get u.frames birth ≡ Some f → GoesOn words sizes l e g (t + 8) u ((t + 7, Lasting v) ∷ scope_of (t + 2) args) rest x → Leads words sizes (Begins sizes l e g t u (bound target.params (Lasting v ∷ [])) f.back) 0 5 x
       given u v x alive frame o =
-          let y : HoldsVariable sizes l g (t + 8) u o.core (t + 7) (Lasting v) = o.holds.variables.each (t + 7) (Lasting v) (rw (eq-eqb (t + 7) (t + 7) refl) refl) in
-          let value : HasValue words sizes l g (t + 8) u o.core (of_var (t + 7)) (Lasting v) = record { word = y.word; stamp = y.stamp; held = y.held; stamped = y.stamped; stands = y.stands; older = y.older } in
-          let returned : Performs words sizes (Begins sizes l e g (t + 8) u (bound target.params (Lasting v ∷ [])) f.back) 1 5 rest o.core =
-          return_performs words sizes l e g (t + 8) u ((t + 7, Lasting v) ∷ scope_of (t + 2) args) o.core birth older f target (of_var (t + 7)) (Lasting v) o.holds value alive frame found one (higher_parameters t 8 target.params params) in
+          let raised : Holds sizes l e g (t + 16) u ((t + 7, Lasting v) ∷ scope_of (t + 2) args) o.core = record {
+            data_held = o.holds.data_held;
+            frames = o.holds.frames;
+            escapes = o.holds.escapes;
+            variables = record {
+              each = λ n w bound_there.
+                  let z : HoldsVariable sizes l g (t + 8) u o.core n w = o.holds.variables.each n w bound_there in
+                  record { older = omega (arith, z.older); word = z.word; stamp = z.stamp; held = z.held; stamped = z.stamped; stands = z.stands };
+            };
+          } in
+          let y : HoldsVariable sizes l g (t + 16) u o.core (t + 7) (Lasting v) = raised.variables.each (t + 7) (Lasting v) (rw (eq-eqb (t + 7) (t + 7) refl) refl) in
+          let value : HasValue words sizes l g (t + 16) u o.core (of_var (t + 7)) (Lasting v) = record { word = y.word; stamp = y.stamp; held = y.held; stamped = y.stamped; stands = y.stands; older = y.older } in
+          let returned : Performs words sizes (Begins sizes l e g (t + 16) u (bound target.params (Lasting v ∷ [])) f.back) 1 5 rest o.core =
+          return_performs words sizes l e g (t + 16) u ((t + 7, Lasting v) ∷ scope_of (t + 2) args) o.core birth older f target (of_var (t + 7)) (Lasting v) raised value alive frame found one (higher_parameters t 16 target.params params) in
           let lowered : Performs words sizes (Begins sizes l e g t u (bound target.params (Lasting v ∷ [])) f.back) 1 5 rest o.core =
-          performs_map words sizes (Begins sizes l e g (t + 8) u (bound target.params (Lasting v ∷ [])) f.back) (Begins sizes l e g t u (bound target.params (Lasting v ∷ [])) f.back) 1 5 rest o.core
-          (λ z b. record { core = b.core; holds = lower_held sizes l e g t 8 u target.params (Lasting v ∷ []) b.core params b.holds; moves = b.moves; steps = b.steps; there = b.there }) returned in
+          performs_map words sizes (Begins sizes l e g (t + 16) u (bound target.params (Lasting v ∷ [])) f.back) (Begins sizes l e g t u (bound target.params (Lasting v ∷ [])) f.back) 1 5 rest o.core
+          (λ z b. record { core = b.core; holds = lower_held sizes l e g t 16 u target.params (Lasting v ∷ []) b.core params b.holds; moves = b.moves; steps = b.steps; there = b.there }) returned in
           subst (Leads words sizes (Begins sizes l e g t u (bound target.params (Lasting v ∷ [])) f.back) 0 5) (sym o.there)
           (any_leads words sizes (λ z. Unit {0}) (Begins sizes l e g t u (bound target.params (Lasting v ∷ [])) f.back) 1 5 (at o.core o.block o.place o.moves o.steps) (lowered.leads o.block o.place o.moves o.steps o.spelled))
 

@@ -21,11 +21,11 @@ use Rattle.frame_objects.specs.Laws.{object_code}
 
 -- ---- builtins as values
 
--- the entry: the value goes to the way back of the youngest frame
+-- the entry: the value goes to the way back of the youngest frame. Eight variables are for what the row makes on the way.
 abbrev pub builtin_code : ℕ → Builtin → Tree
 builtin_code t p =
     Ask test.Eq (of_var t) (word (arity_of p))
-    (code_at (code_of p) (map operand.Var (params_from (t + 2) (arity_of p))) (t + 8) (var (t + 7)) (give_back (t + 8) (of_var (t + 7)))) (fault 2)
+    (code_at (code_of p) (map operand.Var (params_from (t + 2) (arity_of p))) (t + 8) (var (t + 7)) (give_back (t + 16) (of_var (t + 7)))) (fault 2)
 
 -- ---- operations
 
@@ -33,21 +33,21 @@ builtin_code t p =
 abbrev pub passed : ℕ → ℕ → List Operand → List Operand
 passed t f more = of_var t ∷ of_var f ∷ (map operand.Var (params_from (t + 2) 5) ++ more)
 
--- to the loop `look`, with the address of the first method that is looked at
-abbrev pub look_at : ℕ → ℕ → Tree
-look_at t look = Close (last.Jump look (passed t (t + 1) (of_var (t + 9) ∷ [])))
+-- to the loop `look`, with the address of the first method that is looked at, which the variable n holds
+abbrev pub look_at : ℕ → ℕ → ℕ → Tree
+look_at t n look = Close (last.Jump look (passed t (t + 1) (of_var n ∷ [])))
 
 -- The last word of an operation is 0, as the word behind the last method of a template.
 abbrev pub no_methods : ℕ → ℕ → Tree
-no_methods t look = make kind.Add (of_var (t + 1)) (word 10) (var (t + 9)) (look_at t look)
+no_methods t look = make kind.Add (of_var (t + 1)) (word 10) (var (t + 12)) (look_at t (t + 12) look)
 
 -- the methods of an object stand at its second word
 abbrev pub operation_code : ℕ → ℕ → Tree
 operation_code t look =
     Ask test.Eq (of_var t) (word 0) (fault 2)
     (Ask (test.TagIs 2) (of_var (t + 2)) (word 0)
-    (Do (op.Load (var (t + 8)) (of_var (t + 2)) (negsuc 1))
-    (Ask test.Eq (of_var (t + 8)) (word 0x21) (Do (op.Load (var (t + 9)) (of_var (t + 2)) (pos 2)) (look_at t look)) (no_methods t look)))
+    (Do (op.Load (var (t + 10)) (of_var (t + 2)) (negsuc 1))
+    (Ask test.Eq (of_var (t + 10)) (word 0x21) (Do (op.Load (var (t + 11)) (of_var (t + 2)) (pos 2)) (look_at t (t + 11) look)) (no_methods t look)))
     (no_methods t look))
 
 -- the parameters of the loop: those of a call, and the address of a method
@@ -61,14 +61,14 @@ found_code t = Do (op.Load (var (t + 9)) (of_var (t + 7)) (pos 4)) (Close (last.
 -- the entry of the default
 abbrev pub default_code : ℕ → Tree
 default_code t =
-    Do (op.Load (var (t + 9)) (of_var (t + 1)) (pos 6)) (Ask test.Eq (of_var (t + 9)) (word 0) (fault 11) (Close (last.Enter (of_var (t + 9)) (passed t (t + 1) []))))
+    Do (op.Load (var (t + 10)) (of_var (t + 1)) (pos 6)) (Ask test.Eq (of_var (t + 10)) (word 0) (fault 11) (Close (last.Enter (of_var (t + 10)) (passed t (t + 1) []))))
 
 -- a method is an operation and a code
 abbrev pub look_code : ℕ → ℕ → Tree
 look_code t look =
     Do (op.Load (var (t + 8)) (of_var (t + 7)) (pos 0))
     (Ask test.Eq (of_var (t + 8)) (of_var (t + 1)) (found_code t)
-    (Ask test.Eq (of_var (t + 8)) (word 0) (default_code t) (make kind.Add (of_var (t + 7)) (word 8) (var (t + 9)) (look_at t look))))
+    (Ask test.Eq (of_var (t + 8)) (word 0) (default_code t) (make kind.Add (of_var (t + 7)) (word 8) (var (t + 11)) (look_at t (t + 11) look))))
 
 -- ---- escapes
 
@@ -76,9 +76,9 @@ look_code t look =
 abbrev pub escape_code : ℕ → ℕ → Tree
 escape_code t kill =
     Ask test.Eq (of_var t) (word 1)
-    (Do (op.Load (var (t + 8)) (of_var (t + 1)) (pos 2))
-    (Ask test.Eq (of_var (t + 8)) (word 0) (fault 10)
-    (Do (op.Load (var (t + 9)) (operand.Static INNER) (pos 0)) (Close (last.Jump kill (of_var (t + 1) ∷ of_var (t + 2) ∷ of_var (t + 9) ∷ []))))))
+    (Do (op.Load (var (t + 13)) (of_var (t + 1)) (pos 2))
+    (Ask test.Eq (of_var (t + 13)) (word 0) (fault 10)
+    (Do (op.Load (var (t + 14)) (operand.Static INNER) (pos 0)) (Close (last.Jump kill (of_var (t + 1) ∷ of_var (t + 2) ∷ of_var (t + 14) ∷ []))))))
     (fault 2)
 
 -- an escape that is called, the value, and one that ends

@@ -89,9 +89,9 @@ module _ (words : Words) (sizes : Sizes) (Q : Stamped → Type 0) (l : Layout) (
 
   -- with the address of the frame, or 0
   abbrev pub framed : Stamp → Stamp → Core
-  framed a b = binding (headed a) (var (t + 8)) (Number (e.frame birth)) b
+  framed a b = binding (headed a) (var (t + 13)) (Number (e.frame birth)) b
 
-  pub at_frame : (k : ℕ) → length args ≡ 1 → ((a b : Stamp) → Performs words sizes Q 1 k (Ask test.Eq (of_var (t + 8)) (word 0) (fault 10) (Do (op.Load (var (t + 9)) (operand.Static INNER) (pos 0)) (Close (last.Jump kill (of_var (t + 1) ∷ of_var (t + 2) ∷ of_var (t + 9) ∷ []))))) (framed a b)) → Performs words sizes Q 1 (25 + k) (apply_block t apply look kill) c
+  pub at_frame : (k : ℕ) → length args ≡ 1 → ((a b : Stamp) → Performs words sizes Q 1 k (Ask test.Eq (of_var (t + 13)) (word 0) (fault 10) (Do (op.Load (var (t + 14)) (operand.Static INNER) (pos 0)) (Close (last.Jump kill (of_var (t + 1) ∷ of_var (t + 2) ∷ of_var (t + 14) ∷ []))))) (framed a b)) → Performs words sizes Q 1 (25 + k) (apply_block t apply look kill) c
   at_frame k single next =
       let r : IsRead c.storage (own.number - 2 + 4 * 1) (Number (e.frame birth)) = heap_word sizes l e s c.storage c.next c.output h.holds.data_held 2 (AnEscape birth) own.number 1 (Number (e.frame birth)) placed refl in
       let address : moved own.number (pos 2) ≡ own.number - 2 + 4 * 1 = let q = r.outside in omega (arith, placed.word, q) in
@@ -114,7 +114,7 @@ dead_escape_fails words sizes l e g t s birth v c apply look kill h gone =
     let zero_is : e.frame birth ≡ 0 = known ∙ rw gone refl in
     at_frame words sizes (Fails sizes l e s DeadEscape) l e g t s birth (v ∷ []) c apply look kill h 5 refl
     (λ a b.
-    ask_performs_true words sizes (Fails sizes l e s DeadEscape) (Number (e.frame birth)) (Number 0) (newest_kept ((Own (t + 7), Number 0x2D) ∷ c.env) (t + 8) (Number (e.frame birth))) refl (ap Some (eq-eqb (e.frame birth) 0 zero_is))
+    ask_performs_true words sizes (Fails sizes l e s DeadEscape) (Number (e.frame birth)) (Number 0) (newest_kept ((Own (t + 7), Number 0x2D) ∷ c.env) (t + 13) (Number (e.frame birth))) refl (ap Some (eq-eqb (e.frame birth) 0 zero_is))
     (ends words sizes (Fails sizes l e s DeadEscape) 2 (fault 10) (framed words sizes (Fails sizes l e s DeadEscape) l e g t s birth (v ∷ []) c apply look kill h a b) (Faulted DeadEscape)
     (service_ends words sizes (framed words sizes (Fails sizes l e s DeadEscape) l e g t s birth (v ∷ []) c apply look kill h a b) 3 (word 10) 10 (Faulted DeadEscape) never refl refl)
     (λ block place moves steps. record { core = framed words sizes (Fails sizes l e s DeadEscape) l e g t s birth (v ∷ []) c apply look kill h a b; data_held = h.holds.data_held; block = block; place = place; moves = moves; steps = steps; there = refl })))
@@ -149,18 +149,18 @@ module _ (words : Words) (sizes : Sizes) (l : Layout) (e : Escapes) (g : Ways) (
 
   module _ (a b w : Stamp) where
     abbrev third : Core
-    third = binding (binding (binding c (var (t + 7)) (Number 0x2D) a) (var (t + 8)) (Number (e.frame birth)) b) (var (t + 9)) (Number (inner_word l s s.live)) w
+    third = binding (binding (binding c (var (t + 7)) (Number 0x2D) a) (var (t + 13)) (Number (e.frame birth)) b) (var (t + 14)) (Number (inner_word l s s.live)) w
 
     below : (i : ℕ) (x : Word) → i < 7 → kept c.env (Own (t + i)) ≡ Some x → kept third.env (Own (t + i)) ≡ Some x
     below i x lt is =
-        older_kept ((Own (t + 8), Number (e.frame birth)) ∷ (Own (t + 7), Number 0x2D) ∷ c.env) (t + 9) (t + i) (Number (inner_word l s s.live)) (omega (arith, lt))
-        ∙ (older_kept ((Own (t + 7), Number 0x2D) ∷ c.env) (t + 8) (t + i) (Number (e.frame birth)) (omega (arith, lt)) ∙ (older_kept c.env (t + 7) (t + i) (Number 0x2D) (omega (arith, lt)) ∙ is))
+        older_kept ((Own (t + 13), Number (e.frame birth)) ∷ (Own (t + 7), Number 0x2D) ∷ c.env) (t + 14) (t + i) (Number (inner_word l s s.live)) (omega (arith, lt))
+        ∙ (older_kept ((Own (t + 7), Number 0x2D) ∷ c.env) (t + 13) (t + i) (Number (e.frame birth)) (omega (arith, lt)) ∙ (older_kept c.env (t + 7) (t + i) (Number 0x2D) (omega (arith, lt)) ∙ is))
 
     abbrev ws : word_state.Env Word
-    ws = bound_words (params_from u 3) (map (word_in third) (of_var (t + 1) ∷ of_var (t + 2) ∷ of_var (t + 9) ∷ [])) []
+    ws = bound_words (params_from u 3) (map (word_in third) (of_var (t + 1) ∷ of_var (t + 2) ∷ of_var (t + 14) ∷ [])) []
 
     abbrev ss : word_state.Env Stamp
-    ss = bound_stamps (params_from u 3) (map (stamp_in (words_in words sizes) third) (of_var (t + 1) ∷ of_var (t + 2) ∷ of_var (t + 9) ∷ [])) []
+    ss = bound_stamps (params_from u 3) (map (stamp_in (words_in words sizes) third) (of_var (t + 1) ∷ of_var (t + 2) ∷ of_var (t + 14) ∷ [])) []
 
     escape_held : kept third.env (Own (t + 1)) ≡ Some (Number (val_word l s (EscapeV birth)))
     escape_held =
@@ -176,10 +176,10 @@ module _ (words : Words) (sizes : Sizes) (l : Layout) (e : Escapes) (g : Ways) (
         record {
           data_held = data_alike sizes l e (kept_escapes e s.live) s c.storage c.next c.output agree h.holds.data_held;
           stamps = λ x p at_place is. refl;
-          escape = ap (λ y. kept ws (Own y)) z ∙ word_bound u 3 0 (map (word_in third) (of_var (t + 1) ∷ of_var (t + 2) ∷ of_var (t + 9) ∷ [])) [] (Number (val_word l s (EscapeV birth))) (omega arith) (ap Some escape_held);
-          value = word_bound u 3 1 (map (word_in third) (of_var (t + 1) ∷ of_var (t + 2) ∷ of_var (t + 9) ∷ [])) [] (Number (val_word l s v)) (omega arith) (ap Some value_held);
-          inner = word_bound u 3 2 (map (word_in third) (of_var (t + 1) ∷ of_var (t + 2) ∷ of_var (t + 9) ∷ [])) [] (Number (inner_word l s s.live)) (omega arith)
-              (ap Some (newest_kept ((Own (t + 8), Number (e.frame birth)) ∷ (Own (t + 7), Number 0x2D) ∷ c.env) (t + 9) (Number (inner_word l s s.live))));
+          escape = ap (λ y. kept ws (Own y)) z ∙ word_bound u 3 0 (map (word_in third) (of_var (t + 1) ∷ of_var (t + 2) ∷ of_var (t + 14) ∷ [])) [] (Number (val_word l s (EscapeV birth))) (omega arith) (ap Some escape_held);
+          value = word_bound u 3 1 (map (word_in third) (of_var (t + 1) ∷ of_var (t + 2) ∷ of_var (t + 14) ∷ [])) [] (Number (val_word l s v)) (omega arith) (ap Some value_held);
+          inner = word_bound u 3 2 (map (word_in third) (of_var (t + 1) ∷ of_var (t + 2) ∷ of_var (t + 14) ∷ [])) [] (Number (inner_word l s s.live)) (omega arith)
+              (ap Some (newest_kept ((Own (t + 13), Number (e.frame birth)) ∷ (Own (t + 7), Number 0x2D) ∷ c.env) (t + 14) (Number (inner_word l s s.live))));
         }
 
     looped : Performs words sizes R 1 (7 + 14 * ended_catches s birth s.live) (kill_code u kill) (record c { env = ws; stamps = ss })
@@ -187,12 +187,12 @@ module _ (words : Words) (sizes : Sizes) (l : Layout) (e : Escapes) (g : Ways) (
         kills words sizes l e g u r s v c birth f kill block target at_kill known alive caught there found params spelled back one fresh s.live (all_last s) (all_left sizes l g s (stack_of c) h.holds.frames) h.holds.frames.frames alive
         c.storage.heap c.longs.heap ws ss begun
 
-    pub jumps : Performs words sizes R 1 (4 + (7 + 14 * ended_catches s birth s.live)) (Close (last.Jump kill (of_var (t + 1) ∷ of_var (t + 2) ∷ of_var (t + 9) ∷ []))) third
+    pub jumps : Performs words sizes R 1 (4 + (7 + 14 * ended_catches s birth s.live)) (Close (last.Jump kill (of_var (t + 1) ∷ of_var (t + 2) ∷ of_var (t + 14) ∷ []))) third
     jumps =
-        enters_performs words sizes R 1 (7 + 14 * ended_catches s birth s.live) 4 kill (Close (last.Jump kill (of_var (t + 1) ∷ of_var (t + 2) ∷ of_var (t + 9) ∷ []))) third (entering (words_in words sizes) third block.params (of_var (t + 1) ∷ of_var (t + 2) ∷ of_var (t + 9) ∷ []))
-        (jump_enters words sizes third kill block (of_var (t + 1) ∷ of_var (t + 2) ∷ of_var (t + 9) ∷ []) found (sym (ap length params)))
+        enters_performs words sizes R 1 (7 + 14 * ended_catches s birth s.live) 4 kill (Close (last.Jump kill (of_var (t + 1) ∷ of_var (t + 2) ∷ of_var (t + 14) ∷ []))) third (entering (words_in words sizes) third block.params (of_var (t + 1) ∷ of_var (t + 2) ∷ of_var (t + 14) ∷ []))
+        (jump_enters words sizes third kill block (of_var (t + 1) ∷ of_var (t + 2) ∷ of_var (t + 14) ∷ []) found (sym (ap length params)))
         (λ moves steps.
-        subst (λ ps. Leads words sizes R 1 (7 + 14 * ended_catches s birth s.live) (at (entering (words_in words sizes) third ps (of_var (t + 1) ∷ of_var (t + 2) ∷ of_var (t + 9) ∷ [])) kill 0 moves steps)) (sym params)
+        subst (λ ps. Leads words sizes R 1 (7 + 14 * ended_catches s birth s.live) (at (entering (words_in words sizes) third ps (of_var (t + 1) ∷ of_var (t + 2) ∷ of_var (t + 14) ∷ [])) kill 0 moves steps)) (sym params)
         (looped.leads kill 0 moves steps spelled))
 
   pub escapes : Performs words sizes R 1 (41 + 14 * ended_catches s birth s.live) (apply_block t apply look kill) c
@@ -202,8 +202,8 @@ module _ (words : Words) (sizes : Sizes) (l : Layout) (e : Escapes) (g : Ways) (
       performs_more words sizes R (41 + 14 * ended_catches s birth s.live) (omega arith)
       (at_frame words sizes R l e g t s birth (v ∷ []) c apply look kill h (3 + (2 + (4 + (7 + 14 * ended_catches s birth s.live)))) refl
       (λ a b.
-      ask_performs_false words sizes R (Number (e.frame birth)) (Number 0) (newest_kept ((Own (t + 7), Number 0x2D) ∷ c.env) (t + 8) (Number (e.frame birth))) refl (ap Some (ne_eqb (e.frame birth) 0 (λ z. absurd (omega (arith, z, frame_is)))))
-      (loads_inner words sizes R (framed words sizes R l e g t s birth (v ∷ []) c apply look kill h a b) (t + 9) (inner_word l s s.live) 1 (4 + (7 + 14 * ended_catches s birth s.live)) (Close (last.Jump kill (of_var (t + 1) ∷ of_var (t + 2) ∷ of_var (t + 9) ∷ []))) h.holds.escapes.inner
+      ask_performs_false words sizes R (Number (e.frame birth)) (Number 0) (newest_kept ((Own (t + 7), Number 0x2D) ∷ c.env) (t + 13) (Number (e.frame birth))) refl (ap Some (ne_eqb (e.frame birth) 0 (λ z. absurd (omega (arith, z, frame_is)))))
+      (loads_inner words sizes R (framed words sizes R l e g t s birth (v ∷ []) c apply look kill h a b) (t + 14) (inner_word l s s.live) 1 (4 + (7 + 14 * ended_catches s birth s.live)) (Close (last.Jump kill (of_var (t + 1) ∷ of_var (t + 2) ∷ of_var (t + 14) ∷ []))) h.holds.escapes.inner
       (λ w. jumps a b w))))
 
 pub escape_called : (words : Words) (sizes : Sizes) (l : Layout) (e : Escapes) (g : Ways) (t u r : ℕ) (s : State) (birth : ℕ) (v : Val) (c : Core) (f : Frame) (apply look kill : ℕ) (block target : WordBlock) → HoldsCall sizes l e g t s (Lasting (EscapeV birth)) (v ∷ []) c → is_live s birth ≡ true → slice_get s.frames birth ≡ Some f → slice_get words.blocks.items kill ≡ Some block → block.params ≡ kill_params u → Spells words kill 0 (kill_code u kill) → slice_get words.blocks.items (g.begins f.back) ≡ Some target → length target.params ≡ 1 → AreParameters r target.params → Performs words sizes (Begins sizes l (kept_escapes e (older_than birth s.live)) g r (with_live s (older_than birth s.live)) (bound target.params (Lasting v ∷ [])) f.back) 1 (41 + 14 * ended_catches s birth s.live) (apply_block t apply look kill) c

@@ -50,18 +50,18 @@ some_number None k = absurd (cc)
 
 module _ (words : Words) (sizes : Sizes) (l : Layout) (e : Escapes) (g : Ways) (t : ℕ) (s : State) (i : ℕ) (k : Object) (args : List Val) (c : Core) (h : HoldsCall sizes l e g t s (Lasting (ObjectV i)) args c) (there : slice_get s.objects i ≡ Some k) where
   abbrev passed : List Operand
-  passed = of_var t ∷ of_var (t + 8) ∷ map operand.Var (params_from (t + 2) 5)
+  passed = of_var t ∷ of_var (t + 9) ∷ map operand.Var (params_from (t + 2) 5)
 
   module _ (a b : Stamp) (known : word_for l s k.procedure ≡ Some (val_word l s k.procedure)) where
     abbrev d : Core
-    d = binding (binding c (var (t + 7)) (Number 0x21) a) (var (t + 8)) (Number (val_word l s k.procedure)) b
+    d = binding (binding c (var (t + 7)) (Number 0x21) a) (var (t + 9)) (Number (val_word l s k.procedure)) b
 
     abbrev again : Core
     again = record d { env = bound_words (call_params t) (map (word_in d) passed) []; stamps = bound_stamps (call_params t) (map (stamp_in (words_in words sizes) d) passed) [] }
 
     below : (j : ℕ) → j < 7 → kept d.env (Own (t + j)) ≡ kept c.env (Own (t + j))
     below j lt =
-        other_kept ((Own (t + 7), Number 0x21) ∷ c.env) (t + 8) (t + j) (Number (val_word l s k.procedure)) (λ eq. absurd (omega (arith, eq, lt)))
+        other_kept ((Own (t + 7), Number 0x21) ∷ c.env) (t + 9) (t + j) (Number (val_word l s k.procedure)) (λ eq. absurd (omega (arith, eq, lt)))
         ∙ other_kept c.env (t + 7) (t + j) (Number 0x21) (λ eq. absurd (omega (arith, eq, lt)))
 
     operand_at : (j : ℕ) → j < 5 → slice_get (map (word_in d) (map operand.Var (params_from (t + 2) 5))) j ≡ Some (kept d.env (Own (t + 2 + j)))
@@ -88,9 +88,9 @@ module _ (words : Words) (sizes : Sizes) (l : Layout) (e : Escapes) (g : Ways) (
           count = ap (λ x. kept again.env (Own x)) z ∙ word_bound t 7 0 (map (word_in d) passed) [] (Number (length args)) (omega arith) (ap Some first);
           few = h.few;
           word = Number (val_word l s k.procedure);
-          stamp = some_stamp (Some (some_stamp (kept d.stamps (Own (t + 8)))));
-          held = word_bound t 7 1 (map (word_in d) passed) [] (Number (val_word l s k.procedure)) (omega arith) (ap Some (newest_kept ((Own (t + 7), Number 0x21) ∷ c.env) (t + 8) (Number (val_word l s k.procedure))));
-          stamped = ap some_stamp (stamp_bound t 7 1 (map (stamp_in (words_in words sizes) d) passed) [] (some_stamp (kept d.stamps (Own (t + 8)))) (omega arith) refl);
+          stamp = some_stamp (Some (some_stamp (kept d.stamps (Own (t + 9)))));
+          held = word_bound t 7 1 (map (word_in d) passed) [] (Number (val_word l s k.procedure)) (omega arith) (ap Some (newest_kept ((Own (t + 7), Number 0x21) ∷ c.env) (t + 9) (Number (val_word l s k.procedure))));
+          stamped = ap some_stamp (stamp_bound t 7 1 (map (stamp_in (words_in words sizes) d) passed) [] (some_stamp (kept d.stamps (Own (t + 9)))) (omega arith) refl);
           stands = record { number = val_word l s k.procedure; known = known; is = refl };
           known = h.known;
           operands = operand_again;
@@ -112,7 +112,7 @@ module _ (words : Words) (sizes : Sizes) (l : Layout) (e : Escapes) (g : Ways) (
       let a : Stamp = some_stamp (long_at c.longs (moved w.number (negsuc 1))) in
       let b : Stamp = some_stamp (long_at c.longs (moved w.number (pos 6))) in
       let first : Core = binding c (var (t + 7)) (Number 0x21) a in
-      let second : Core = binding first (var (t + 8)) (Number (val_word l s k.procedure)) b in
+      let second : Core = binding first (var (t + 9)) (Number (val_word l s k.procedure)) b in
       let held : kept c.env (Own (t + 1)) ≡ Some (Number w.number) = h.held ∙ ap Some w.is in
       let held_first : kept first.env (Own (t + 1)) ≡ Some (Number w.number) = other_kept c.env (t + 7) (t + 1) (Number 0x21) (λ eq. absurd (omega (arith, eq))) ∙ held in
       ask_performs_true words sizes (Calls sizes l e g t s (Lasting k.procedure) args apply) (Number w.number) (Number 0) held refl (ap Some (eq-eqb (w.number % 4) 2 tag))

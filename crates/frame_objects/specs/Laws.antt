@@ -27,7 +27,7 @@ use Rattle.frame_calls.specs.Calls.{HoldsCall, Calls}
 abbrev pub object_code : ℕ → ℕ → Tree → Tree
 object_code t apply others =
     Ask test.Eq (of_var (t + 7)) (word 0x21)
-    (Do (op.Load (var (t + 8)) (of_var (t + 1)) (pos 6)) (Close (last.Jump apply (of_var t ∷ of_var (t + 8) ∷ map operand.Var (params_from (t + 2) 5))))) others
+    (Do (op.Load (var (t + 9)) (of_var (t + 1)) (pos 6)) (Close (last.Jump apply (of_var t ∷ of_var (t + 9) ∷ map operand.Var (params_from (t + 2) 5))))) others
 
 abbrev pub ObjectsPassOn : Type 0
 ObjectsPassOn =

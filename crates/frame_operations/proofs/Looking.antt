@@ -115,15 +115,15 @@ module _ (words : Words) (sizes : Sizes) (l : Layout) (e : Escapes) (g : Ways) (
       let own_held : kept ws (Own (t + 1)) ≡ Some (Number number) = same.each 1 (omega arith) ∙ (h.held ∙ ap Some (own sizes l e g t s o (v ∷ vs) c h).is) in
       let below = own_below sizes l e g t s o (v ∷ vs) c h in
       compute_performs words sizes (Looks sizes l e g u s o [] (v ∷ vs) look) number 10 (number + 10) own_held refl (sum_small number 10 (omega (arith, below)))
-      (look_performs words sizes l e g t s o (v ∷ vs) c h ((Own (t + 9), Number (number + 10)) ∷ ws) ((Own (t + 9), None) ∷ ss) u [] (number + 10) look block
-      (one_more t 9 c.env ws (Number (number + 10)) (omega arith) same) (one_more t 9 c.stamps ss None (omega arith) stamps) (newest_kept ws (t + 9) (Number (number + 10)))
+      (look_performs words sizes l e g t s o (v ∷ vs) c h (t + 12) ((Own (t + 12), Number (number + 10)) ∷ ws) ((Own (t + 12), None) ∷ ss) u [] (number + 10) look block
+      (one_more t 12 c.env ws (Number (number + 10)) (omega arith) same) (one_more t 12 c.stamps ss None (omega arith) stamps) (newest_kept ws (t + 12) (Number (number + 10)))
       (own_end sizes l e g t s o (v ∷ vs) c h) found params)
 
   -- behind the count
   behind_count : (ms : List (ℕ × ℕ)) (k : ℕ) → ((a : Stamp) → Performs words sizes (Looks sizes l e g u s o ms (v ∷ vs) look) 1 k
       (Rattle.word_trees.specs.Trees.Ask (Rattle.word_ir.specs.declared.words.Test.TheVariants.TagIs 2) (of_var (t + 2)) (word 0)
-      (Rattle.word_trees.specs.Trees.Do (Rattle.word_ir.specs.declared.words.WordOp.TheVariants.Load (var (t + 8)) (of_var (t + 2)) (negsuc 1))
-      (Rattle.word_trees.specs.Trees.Ask Rattle.word_ir.specs.declared.words.Test.TheVariants.Eq (of_var (t + 8)) (word 0x21) (Rattle.word_trees.specs.Trees.Do (Rattle.word_ir.specs.declared.words.WordOp.TheVariants.Load (var (t + 9)) (of_var (t + 2)) (pos 2)) (look_at t look)) (no_methods t look)))
+      (Rattle.word_trees.specs.Trees.Do (Rattle.word_ir.specs.declared.words.WordOp.TheVariants.Load (var (t + 10)) (of_var (t + 2)) (negsuc 1))
+      (Rattle.word_trees.specs.Trees.Ask Rattle.word_ir.specs.declared.words.Test.TheVariants.Eq (of_var (t + 10)) (word 0x21) (Rattle.word_trees.specs.Trees.Do (Rattle.word_ir.specs.declared.words.WordOp.TheVariants.Load (var (t + 11)) (of_var (t + 2)) (pos 2)) (look_at t (t + 11) look)) (no_methods t look)))
       (no_methods t look)) (binding c (var (t + 7)) (Number 0x25) a)) → k ≤ 20 → Performs words sizes (Looks sizes l e g u s o ms (v ∷ vs) look) 1 40 (apply_block t apply look kill) c
   behind_count ms k next le =
       performs_more words sizes (Looks sizes l e g u s o ms (v ∷ vs) look) 40 (omega (arith, le))
@@ -147,8 +147,8 @@ module _ (words : Words) (sizes : Sizes) (l : Layout) (e : Escapes) (g : Ways) (
 
   -- its header is read
   tagged : (ms : List (ℕ × ℕ)) (header k : ℕ) → tag_of v ≡ 2 → header_of v ≡ Some header → ((a b : Stamp) → Performs words sizes (Looks sizes l e g u s o ms (v ∷ vs) look) 1 k
-      (Rattle.word_trees.specs.Trees.Ask Rattle.word_ir.specs.declared.words.Test.TheVariants.Eq (of_var (t + 8)) (word 0x21) (Rattle.word_trees.specs.Trees.Do (Rattle.word_ir.specs.declared.words.WordOp.TheVariants.Load (var (t + 9)) (of_var (t + 2)) (pos 2)) (look_at t look)) (no_methods t look))
-      (record c { env = (Own (t + 8), Number header) ∷ (Own (t + 7), Number 0x25) ∷ c.env; stamps = (Own (t + 8), b) ∷ (Own (t + 7), a) ∷ c.stamps })) → k ≤ 15 → Performs words sizes (Looks sizes l e g u s o ms (v ∷ vs) look) 1 40 (apply_block t apply look kill) c
+      (Rattle.word_trees.specs.Trees.Ask Rattle.word_ir.specs.declared.words.Test.TheVariants.Eq (of_var (t + 10)) (word 0x21) (Rattle.word_trees.specs.Trees.Do (Rattle.word_ir.specs.declared.words.WordOp.TheVariants.Load (var (t + 11)) (of_var (t + 2)) (pos 2)) (look_at t (t + 11) look)) (no_methods t look))
+      (record c { env = (Own (t + 10), Number header) ∷ (Own (t + 7), Number 0x25) ∷ c.env; stamps = (Own (t + 10), b) ∷ (Own (t + 7), a) ∷ c.stamps })) → k ≤ 15 → Performs words sizes (Looks sizes l e g u s o ms (v ∷ vs) look) 1 40 (apply_block t apply look kill) c
   tagged ms header k two is next le =
       let read : IsRead c.storage (moved object (negsuc 1)) (Number header) = header_is sizes l e s c.storage c.next c.output h.holds.data_held v object header known is in
       behind_count ms (3 + (2 + k))
@@ -157,30 +157,30 @@ module _ (words : Words) (sizes : Sizes) (l : Layout) (e : Escapes) (g : Ways) (
       (load_performs words sizes (Looks sizes l e g u s o ms (v ∷ vs) look) object (Number header) ((header_env a).each 2 (omega arith) ∙ object_held) read.reads (may_read words sizes (binding c (var (t + 7)) (Number 0x25) a) (of_var (t + 2)) (moved object (negsuc 1)) read.outside)
       (next a (some_stamp (long_at c.longs (moved object (negsuc 1))))))) (omega (arith, le))
 
-  two_env : (header : ℕ) → SameCall t c.env ((Own (t + 8), Number header) ∷ (Own (t + 7), Number 0x25) ∷ c.env)
-  two_env header = one_more t 8 c.env ((Own (t + 7), Number 0x25) ∷ c.env) (Number header) (omega arith) (one_more t 7 c.env c.env (Number 0x25) (omega arith) (same_call t c.env))
+  two_env : (header : ℕ) → SameCall t c.env ((Own (t + 10), Number header) ∷ (Own (t + 7), Number 0x25) ∷ c.env)
+  two_env header = one_more t 10 c.env ((Own (t + 7), Number 0x25) ∷ c.env) (Number header) (omega arith) (one_more t 7 c.env c.env (Number 0x25) (omega arith) (same_call t c.env))
 
-  two_stamps : (a b : Stamp) → SameCall t c.stamps ((Own (t + 8), b) ∷ (Own (t + 7), a) ∷ c.stamps)
-  two_stamps a b = one_more t 8 c.stamps ((Own (t + 7), a) ∷ c.stamps) b (omega arith) (one_more t 7 c.stamps c.stamps a (omega arith) (same_call t c.stamps))
+  two_stamps : (a b : Stamp) → SameCall t c.stamps ((Own (t + 10), b) ∷ (Own (t + 7), a) ∷ c.stamps)
+  two_stamps a b = one_more t 10 c.stamps ((Own (t + 7), a) ∷ c.stamps) b (omega arith) (one_more t 7 c.stamps c.stamps a (omega arith) (same_call t c.stamps))
 
   pub not_object_by_header : (header : ℕ) → tag_of v ≡ 2 → header_of v ≡ Some header → (header == 0x21) ≡ false → Performs words sizes (Looks sizes l e g u s o [] (v ∷ vs) look) 1 40 (apply_block t apply look kill) c
   not_object_by_header header two is differs =
       tagged [] header 15 two is
       (λ a b.
-      ask_performs_false words sizes (Looks sizes l e g u s o [] (v ∷ vs) look) (Number header) (Number 0x21) (newest_kept ((Own (t + 7), Number 0x25) ∷ c.env) (t + 8) (Number header)) refl (ap Some differs)
-      (none_at ((Own (t + 8), Number header) ∷ (Own (t + 7), Number 0x25) ∷ c.env) ((Own (t + 8), b) ∷ (Own (t + 7), a) ∷ c.stamps) (two_env header) (two_stamps a b))) (omega arith)
+      ask_performs_false words sizes (Looks sizes l e g u s o [] (v ∷ vs) look) (Number header) (Number 0x21) (newest_kept ((Own (t + 7), Number 0x25) ∷ c.env) (t + 10) (Number header)) refl (ap Some differs)
+      (none_at ((Own (t + 10), Number header) ∷ (Own (t + 7), Number 0x25) ∷ c.env) ((Own (t + 10), b) ∷ (Own (t + 7), a) ∷ c.stamps) (two_env header) (two_stamps a b))) (omega arith)
 
   pub at_object : (base : ℕ) (ms : List (ℕ × ℕ)) → tag_of v ≡ 2 → header_of v ≡ Some 0x21 → IsRead c.storage (moved object (pos 2)) (Number base) → AreMethods l s c.storage base ms → Performs words sizes (Looks sizes l e g u s o ms (v ∷ vs) look) 1 40 (apply_block t apply look kill) c
   at_object base ms two is read methods =
       tagged ms 0x21 14 two is
       (λ a b.
-      ask_performs_true words sizes (Looks sizes l e g u s o ms (v ∷ vs) look) (Number 0x21) (Number 0x21) (newest_kept ((Own (t + 7), Number 0x25) ∷ c.env) (t + 8) (Number 0x21)) refl refl
+      ask_performs_true words sizes (Looks sizes l e g u s o ms (v ∷ vs) look) (Number 0x21) (Number 0x21) (newest_kept ((Own (t + 7), Number 0x25) ∷ c.env) (t + 10) (Number 0x21)) refl refl
       (load_performs words sizes (Looks sizes l e g u s o ms (v ∷ vs) look) object (Number base) ((two_env 0x21).each 2 (omega arith) ∙ object_held) read.reads
-      (may_read words sizes (record c { env = (Own (t + 8), Number 0x21) ∷ (Own (t + 7), Number 0x25) ∷ c.env; stamps = (Own (t + 8), b) ∷ (Own (t + 7), a) ∷ c.stamps }) (of_var (t + 2)) (moved object (pos 2)) read.outside)
-      (look_performs words sizes l e g t s o (v ∷ vs) c h ((Own (t + 9), Number base) ∷ (Own (t + 8), Number 0x21) ∷ (Own (t + 7), Number 0x25) ∷ c.env) ((Own (t + 9), some_stamp (long_at c.longs (moved object (pos 2)))) ∷ (Own (t + 8), b) ∷ (Own (t + 7), a) ∷ c.stamps) u ms base look block
-      (one_more t 9 c.env ((Own (t + 8), Number 0x21) ∷ (Own (t + 7), Number 0x25) ∷ c.env) (Number base) (omega arith) (two_env 0x21))
-      (one_more t 9 c.stamps ((Own (t + 8), b) ∷ (Own (t + 7), a) ∷ c.stamps) (some_stamp (long_at c.longs (moved object (pos 2)))) (omega arith) (two_stamps a b))
-      (newest_kept ((Own (t + 8), Number 0x21) ∷ (Own (t + 7), Number 0x25) ∷ c.env) (t + 9) (Number base)) methods found params))) (omega arith)
+      (may_read words sizes (record c { env = (Own (t + 10), Number 0x21) ∷ (Own (t + 7), Number 0x25) ∷ c.env; stamps = (Own (t + 10), b) ∷ (Own (t + 7), a) ∷ c.stamps }) (of_var (t + 2)) (moved object (pos 2)) read.outside)
+      (look_performs words sizes l e g t s o (v ∷ vs) c h (t + 11) ((Own (t + 11), Number base) ∷ (Own (t + 10), Number 0x21) ∷ (Own (t + 7), Number 0x25) ∷ c.env) ((Own (t + 11), some_stamp (long_at c.longs (moved object (pos 2)))) ∷ (Own (t + 10), b) ∷ (Own (t + 7), a) ∷ c.stamps) u ms base look block
+      (one_more t 11 c.env ((Own (t + 10), Number 0x21) ∷ (Own (t + 7), Number 0x25) ∷ c.env) (Number base) (omega arith) (two_env 0x21))
+      (one_more t 11 c.stamps ((Own (t + 10), b) ∷ (Own (t + 7), a) ∷ c.stamps) (some_stamp (long_at c.longs (moved object (pos 2)))) (omega arith) (two_stamps a b))
+      (newest_kept ((Own (t + 10), Number 0x21) ∷ (Own (t + 7), Number 0x25) ∷ c.env) (t + 11) (Number base)) methods found params))) (omega arith)
 
 object_looks : (words : Words) (sizes : Sizes) (l : Layout) (e : Escapes) (g : Ways) (t u : ℕ) (s : State) (o i : ℕ) (vs : List Val) (c : Core) (apply look kill : ℕ) (block : WordBlock) → HoldsCall sizes l e g t s (Lasting (OperationV o)) (ObjectV i ∷ vs) c → HasOperations l → slice_get words.blocks.items look ≡ Some block → block.params ≡ look_params u → Performs words sizes (Looks sizes l e g u s o (methods_in l s (ObjectV i)) (ObjectV i ∷ vs) look) 1 40 (apply_block t apply look kill) c
 object_looks words sizes l e g t u s o i vs c apply look kill block h whole found params =

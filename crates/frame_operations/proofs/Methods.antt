@@ -49,22 +49,22 @@ some_number None k = absurd (cc)
 -- ---- the loop goes on at an address
 
 module _ (words : Words) (sizes : Sizes) (l : Layout) (e : Escapes) (g : Ways) (t : ℕ) (s : State) (o : ℕ) (args : List Val) (c : Core) (h : HoldsCall sizes l e g t s (Lasting (OperationV o)) args c) where
-  pub look_performs : (ws : Rattle.word_ir.specs.State.Env Word) (ss : Rattle.word_ir.specs.State.Env Stamp) (r : ℕ) (ms : List (ℕ × ℕ)) (address look : ℕ) (block : WordBlock) → SameCall t c.env ws → SameCall t c.stamps ss → kept ws (Own (t + 9)) ≡ Some (Number address) → AreMethods l s c.storage address ms → slice_get words.blocks.items look ≡ Some block → block.params ≡ look_params r → Performs words sizes (Looks sizes l e g r s o ms args look) 1 9 (look_at t look) (record c { env = ws; stamps = ss })
-  look_performs ws ss r ms address look block same stamps held methods found params =
-      enters_performs words sizes (Looks sizes l e g r s o ms args look) 0 0 9 look (look_at t look) (record c { env = ws; stamps = ss }) (entering (words_in words sizes) (record c { env = ws; stamps = ss }) block.params (passed t (t + 1) (of_var (t + 9) ∷ [])))
-      (jump_enters words sizes (record c { env = ws; stamps = ss }) look block (passed t (t + 1) (of_var (t + 9) ∷ [])) found (sym (ap length params)))
+  pub look_performs : (v : ℕ) (ws : Rattle.word_ir.specs.State.Env Word) (ss : Rattle.word_ir.specs.State.Env Stamp) (r : ℕ) (ms : List (ℕ × ℕ)) (address look : ℕ) (block : WordBlock) → SameCall t c.env ws → SameCall t c.stamps ss → kept ws (Own v) ≡ Some (Number address) → AreMethods l s c.storage address ms → slice_get words.blocks.items look ≡ Some block → block.params ≡ look_params r → Performs words sizes (Looks sizes l e g r s o ms args look) 1 9 (look_at t v look) (record c { env = ws; stamps = ss })
+  look_performs v ws ss r ms address look block same stamps held methods found params =
+      enters_performs words sizes (Looks sizes l e g r s o ms args look) 0 0 9 look (look_at t v look) (record c { env = ws; stamps = ss }) (entering (words_in words sizes) (record c { env = ws; stamps = ss }) block.params (passed t (t + 1) (of_var v ∷ [])))
+      (jump_enters words sizes (record c { env = ws; stamps = ss }) look block (passed t (t + 1) (of_var v ∷ [])) found (sym (ap length params)))
       (λ moves steps. here_leads words sizes (Looks sizes l e g r s o ms args look) 0 _
       (record {
-        core = begun words sizes l e g t s (Lasting (OperationV o)) args c h ws ss same r 8 (t + 1) (of_var (t + 9) ∷ []);
+        core = begun words sizes l e g t s (Lasting (OperationV o)) args c h ws ss same r 8 (t + 1) (of_var v ∷ []);
         holds = record {
-          call = same_procedure words sizes l e g t s (Lasting (OperationV o)) args c h ws ss same stamps r 8 (of_var (t + 9) ∷ []) (omega arith);
+          call = same_procedure words sizes l e g t s (Lasting (OperationV o)) args c h ws ss same stamps r 8 (of_var v ∷ []) (omega arith);
           address = address;
-          held = word_bound r 8 7 (map (word_in (record c { env = ws; stamps = ss })) (passed t (t + 1) (of_var (t + 9) ∷ []))) [] (Number address) (omega arith) (ap Some held);
+          held = word_bound r 8 7 (map (word_in (record c { env = ws; stamps = ss })) (passed t (t + 1) (of_var v ∷ []))) [] (Number address) (omega arith) (ap Some held);
           methods = methods;
         };
         moves = moves;
         steps = steps;
-        there = ap (λ ps. at (entering (words_in words sizes) (record c { env = ws; stamps = ss }) ps (passed t (t + 1) (of_var (t + 9) ∷ []))) look 0 moves steps) params;
+        there = ap (λ ps. at (entering (words_in words sizes) (record c { env = ws; stamps = ss }) ps (passed t (t + 1) (of_var v ∷ []))) look 0 moves steps) params;
       }))
 
 -- ---- an operation's own words
@@ -106,7 +106,7 @@ module _ (words : Words) (sizes : Sizes) (Q : Stamped → Type 0) (l : Layout) (
   own_first n a = other_kept c.env (t + 8) (t + 1) (Number n) (λ eq. absurd (omega (arith, eq))) ∙ (h.held ∙ ap Some (own sizes l e g t s o args c h).is)
 
   -- the word is that of the operation, or isn't
-  pub reads_one : (n k look : ℕ) (b : Bool) → IsRead c.storage address (Number n) → (n == (own sizes l e g t s o args c h).number) ≡ b → ((a : Stamp) → b ≡ true → Performs words sizes Q 1 k (found_code t) (first n a)) → ((a : Stamp) → b ≡ false → Performs words sizes Q 1 k (Rattle.word_trees.specs.Trees.Ask Rattle.word_ir.specs.declared.words.Test.TheVariants.Eq (of_var (t + 8)) (word 0) (default_code t) (Rattle.select_rows.specs.Codes.make kind.Add (of_var (t + 7)) (word 8) (var (t + 9)) (look_at t look))) (first n a)) → Performs words sizes Q 1 (5 + k) (look_code t look) c
+  pub reads_one : (n k look : ℕ) (b : Bool) → IsRead c.storage address (Number n) → (n == (own sizes l e g t s o args c h).number) ≡ b → ((a : Stamp) → b ≡ true → Performs words sizes Q 1 k (found_code t) (first n a)) → ((a : Stamp) → b ≡ false → Performs words sizes Q 1 k (Rattle.word_trees.specs.Trees.Ask Rattle.word_ir.specs.declared.words.Test.TheVariants.Eq (of_var (t + 8)) (word 0) (default_code t) (Rattle.select_rows.specs.Codes.make kind.Add (of_var (t + 7)) (word 8) (var (t + 11)) (look_at t (t + 11) look))) (first n a)) → Performs words sizes Q 1 (5 + k) (look_code t look) c
   reads_one n k look true read eq yes_goes no_goes =
       let same : moved address (pos 0) ≡ address = omega arith in
       performs_more words sizes Q (5 + k) (omega arith)
@@ -140,10 +140,10 @@ module _ (words : Words) (sizes : Sizes) (l : Layout) (e : Escapes) (g : Ways) (
       ask_performs_false words sizes (Looks sizes l e g t s o ms args look) (Number n) (Number 0) (newest_kept c.env (t + 8) (Number n)) refl (ap Some (ne_eqb n 0 (λ z. not_zero z)))
       (compute_performs words sizes (Looks sizes l e g t s o ms args look) k.address 8 (k.address + 8)
       (other_kept c.env (t + 8) (t + 7) (Number n) (λ q. absurd (omega (arith, q))) ∙ k.held) refl (sum_small k.address 8 (let r = k.methods.1.outside in omega (arith, r)))
-      (look_performs words sizes l e g t s o args c k.call ((Own (t + 9), Number (k.address + 8)) ∷ (Own (t + 8), Number n) ∷ c.env) ((Own (t + 9), None) ∷ (Own (t + 8), a) ∷ c.stamps) t ms (k.address + 8) look block
-      (one_more t 9 c.env ((Own (t + 8), Number n) ∷ c.env) (Number (k.address + 8)) (omega arith) (one_more t 8 c.env c.env (Number n) (omega arith) (same_call t c.env)))
-      (one_more t 9 c.stamps ((Own (t + 8), a) ∷ c.stamps) None (omega arith) (one_more t 8 c.stamps c.stamps a (omega arith) (same_call t c.stamps)))
-      (newest_kept ((Own (t + 8), Number n) ∷ c.env) (t + 9) (Number (k.address + 8))) k.methods.3 found params)))
+      (look_performs words sizes l e g t s o args c k.call (t + 11) ((Own (t + 11), Number (k.address + 8)) ∷ (Own (t + 8), Number n) ∷ c.env) ((Own (t + 11), None) ∷ (Own (t + 8), a) ∷ c.stamps) t ms (k.address + 8) look block
+      (one_more t 11 c.env ((Own (t + 8), Number n) ∷ c.env) (Number (k.address + 8)) (omega arith) (one_more t 8 c.env c.env (Number n) (omega arith) (same_call t c.env)))
+      (one_more t 11 c.stamps ((Own (t + 8), a) ∷ c.stamps) None (omega arith) (one_more t 8 c.stamps c.stamps a (omega arith) (same_call t c.stamps)))
+      (newest_kept ((Own (t + 8), Number n) ∷ c.env) (t + 11) (Number (k.address + 8))) k.methods.3 found params)))
     where
       not_zero : n ≡ 0 → ⊥
       not_zero z =
@@ -190,7 +190,7 @@ module _ (words : Words) (sizes : Sizes) (l : Layout) (e : Escapes) (g : Ways) (
   number = (own sizes l e g t s o args c k.call).number
 
   -- to the default's word
-  at_default : (Q : Stamped → Type 0) (w : Word) (cost : ℕ) → default_word (l.default_entry o) ≡ w → ((a b : Stamp) → Performs words sizes Q 1 cost (Rattle.word_trees.specs.Trees.Ask Rattle.word_ir.specs.declared.words.Test.TheVariants.Eq (of_var (t + 9)) (word 0) (fault 11) (Close (last.Enter (of_var (t + 9)) (passed t (t + 1) [])))) (record c { env = (Own (t + 9), w) ∷ (Own (t + 8), Number 0) ∷ c.env; stamps = (Own (t + 9), b) ∷ (Own (t + 8), a) ∷ c.stamps })) → Performs words sizes Q 1 (10 + cost) (look_code t look) c
+  at_default : (Q : Stamped → Type 0) (w : Word) (cost : ℕ) → default_word (l.default_entry o) ≡ w → ((a b : Stamp) → Performs words sizes Q 1 cost (Rattle.word_trees.specs.Trees.Ask Rattle.word_ir.specs.declared.words.Test.TheVariants.Eq (of_var (t + 10)) (word 0) (fault 11) (Close (last.Enter (of_var (t + 10)) (passed t (t + 1) [])))) (record c { env = (Own (t + 10), w) ∷ (Own (t + 8), Number 0) ∷ c.env; stamps = (Own (t + 10), b) ∷ (Own (t + 8), a) ∷ c.stamps })) → Performs words sizes Q 1 (10 + cost) (look_code t look) c
   at_default Q w cost is next =
       let above : 1 ≤ number = own_above sizes l e g t s o args c k.call in
       let read : IsRead c.storage (moved number (pos 6)) w = subst (IsRead c.storage (moved number (pos 6))) is (own_default sizes l e g t s o args c k.call) in
@@ -205,22 +205,22 @@ module _ (words : Words) (sizes : Sizes) (l : Layout) (e : Escapes) (g : Ways) (
   goes_to_default r code block there found params =
       at_default (Calls sizes l e g r s (Lasting (OperationV o)) args code) (Code code) (3 + 9) (ap default_word there)
       (λ a b.
-      let same : SameCall t c.env ((Own (t + 9), Code code) ∷ (Own (t + 8), Number 0) ∷ c.env) = one_more t 9 c.env ((Own (t + 8), Number 0) ∷ c.env) (Code code) (omega arith) (one_more t 8 c.env c.env (Number 0) (omega arith) (same_call t c.env)) in
-      let stamps : SameCall t c.stamps ((Own (t + 9), b) ∷ (Own (t + 8), a) ∷ c.stamps) = one_more t 9 c.stamps ((Own (t + 8), a) ∷ c.stamps) b (omega arith) (one_more t 8 c.stamps c.stamps a (omega arith) (same_call t c.stamps)) in
-      ask_performs_false words sizes (Calls sizes l e g r s (Lasting (OperationV o)) args code) (Code code) (Number 0) (newest_kept ((Own (t + 8), Number 0) ∷ c.env) (t + 9) (Code code)) refl refl
-      (enter_performs words sizes l e g t s (Lasting (OperationV o)) args c k.call ((Own (t + 9), Code code) ∷ (Own (t + 8), Number 0) ∷ c.env) ((Own (t + 9), b) ∷ (Own (t + 8), a) ∷ c.stamps) same r (t + 9) (t + 1) code (Lasting (OperationV o)) block
-      (newest_kept ((Own (t + 8), Number 0) ∷ c.env) (t + 9) (Code code))
-      (same_procedure words sizes l e g t s (Lasting (OperationV o)) args c k.call ((Own (t + 9), Code code) ∷ (Own (t + 8), Number 0) ∷ c.env) ((Own (t + 9), b) ∷ (Own (t + 8), a) ∷ c.stamps) same stamps r 7 [] (omega arith)) found params))
+      let same : SameCall t c.env ((Own (t + 10), Code code) ∷ (Own (t + 8), Number 0) ∷ c.env) = one_more t 10 c.env ((Own (t + 8), Number 0) ∷ c.env) (Code code) (omega arith) (one_more t 8 c.env c.env (Number 0) (omega arith) (same_call t c.env)) in
+      let stamps : SameCall t c.stamps ((Own (t + 10), b) ∷ (Own (t + 8), a) ∷ c.stamps) = one_more t 10 c.stamps ((Own (t + 8), a) ∷ c.stamps) b (omega arith) (one_more t 8 c.stamps c.stamps a (omega arith) (same_call t c.stamps)) in
+      ask_performs_false words sizes (Calls sizes l e g r s (Lasting (OperationV o)) args code) (Code code) (Number 0) (newest_kept ((Own (t + 8), Number 0) ∷ c.env) (t + 10) (Code code)) refl refl
+      (enter_performs words sizes l e g t s (Lasting (OperationV o)) args c k.call ((Own (t + 10), Code code) ∷ (Own (t + 8), Number 0) ∷ c.env) ((Own (t + 10), b) ∷ (Own (t + 8), a) ∷ c.stamps) same r (t + 10) (t + 1) code (Lasting (OperationV o)) block
+      (newest_kept ((Own (t + 8), Number 0) ∷ c.env) (t + 10) (Code code))
+      (same_procedure words sizes l e g t s (Lasting (OperationV o)) args c k.call ((Own (t + 10), Code code) ∷ (Own (t + 8), Number 0) ∷ c.env) ((Own (t + 10), b) ∷ (Own (t + 8), a) ∷ c.stamps) same stamps r 7 [] (omega arith)) found params))
 
   pub fails_unhandled : l.default_entry o ≡ None → Performs words sizes (Fails sizes l e s NotHandled) 1 15 (look_code t look) c
   fails_unhandled none =
       at_default (Fails sizes l e s NotHandled) (Number 0) 5 (ap default_word none)
       (λ a b.
-      let d : Core = record c { env = (Own (t + 9), Number 0) ∷ (Own (t + 8), Number 0) ∷ c.env; stamps = (Own (t + 9), b) ∷ (Own (t + 8), a) ∷ c.stamps } in
-      ask_performs_true words sizes (Fails sizes l e s NotHandled) (Number 0) (Number 0) (newest_kept ((Own (t + 8), Number 0) ∷ c.env) (t + 9) (Number 0)) refl refl
-      (ends words sizes (Fails sizes l e s NotHandled) 2 (fault 11) (record c { env = (Own (t + 9), Number 0) ∷ (Own (t + 8), Number 0) ∷ c.env; stamps = (Own (t + 9), b) ∷ (Own (t + 8), a) ∷ c.stamps }) (Faulted NotHandled)
-      (service_ends words sizes (record c { env = (Own (t + 9), Number 0) ∷ (Own (t + 8), Number 0) ∷ c.env; stamps = (Own (t + 9), b) ∷ (Own (t + 8), a) ∷ c.stamps }) 3 (word 11) 11 (Faulted NotHandled) never refl refl)
-      (λ block place moves steps. record { core = record c { env = (Own (t + 9), Number 0) ∷ (Own (t + 8), Number 0) ∷ c.env; stamps = (Own (t + 9), b) ∷ (Own (t + 8), a) ∷ c.stamps }; data_held = k.call.holds.data_held; block = block; place = place; moves = moves; steps = steps; there = refl })))
+      let d : Core = record c { env = (Own (t + 10), Number 0) ∷ (Own (t + 8), Number 0) ∷ c.env; stamps = (Own (t + 10), b) ∷ (Own (t + 8), a) ∷ c.stamps } in
+      ask_performs_true words sizes (Fails sizes l e s NotHandled) (Number 0) (Number 0) (newest_kept ((Own (t + 8), Number 0) ∷ c.env) (t + 10) (Number 0)) refl refl
+      (ends words sizes (Fails sizes l e s NotHandled) 2 (fault 11) (record c { env = (Own (t + 10), Number 0) ∷ (Own (t + 8), Number 0) ∷ c.env; stamps = (Own (t + 10), b) ∷ (Own (t + 8), a) ∷ c.stamps }) (Faulted NotHandled)
+      (service_ends words sizes (record c { env = (Own (t + 10), Number 0) ∷ (Own (t + 8), Number 0) ∷ c.env; stamps = (Own (t + 10), b) ∷ (Own (t + 8), a) ∷ c.stamps }) 3 (word 11) 11 (Faulted NotHandled) never refl refl)
+      (λ block place moves steps. record { core = record c { env = (Own (t + 10), Number 0) ∷ (Own (t + 8), Number 0) ∷ c.env; stamps = (Own (t + 10), b) ∷ (Own (t + 8), a) ∷ c.stamps }; data_held = k.call.holds.data_held; block = block; place = place; moves = moves; steps = steps; there = refl })))
 
 pub default_taken : (words : Words) (sizes : Sizes) (l : Layout) (e : Escapes) (g : Ways) (t u : ℕ) (s : State) (o code : ℕ) (args : List Val) (c : Core) (look : ℕ) (block : WordBlock) → HoldsLook sizes l e g t s o [] args c → l.default_entry o ≡ Some code → slice_get words.blocks.items code ≡ Some block → block.params ≡ call_params u → Performs words sizes (Calls sizes l e g u s (Lasting (OperationV o)) args code) 1 22 (look_code t look) c
 default_taken words sizes l e g t u s o code args c look block k there found params = goes_to_default words sizes l e g t s o args c look k u code block there found params
