@@ -1,7 +1,8 @@
 -- What is written is spelled.
-use Rattle.std.proofs.Common.{◌≡◌, ℕ, zero, suc, ◌+◌, ◌<◌, inl, inr, List, [], ◌∷◌, ◌++◌, length, slice_get, slice_set, Some, None, option_map, refl, sym, ap, ◌∙◌, subst, arith, length-append}
+use Rattle.std.proofs.Common.{◌≡◌, ℕ, zero, suc, ◌+◌, ◌<◌, ◌≤◌, inl, inr, List, [], ◌∷◌, ◌++◌, length, slice_get, slice_set, Some, None, option_map, refl, sym, ap, ◌∙◌, subst, arith, length-append}
 use Rattle.std.specs.Option.{option_map_or}
 use Rattle.std.proofs.lemmas.List.{length-set}
+use Rattle.t_base.specs.declared.basics.Var.{Var}
 use Rattle.word_ir.specs.declared.operands.Operand.{Operand}
 use Rattle.word_ir.specs.declared.words.WordOp.{WordOp}
 use Rattle.word_ir.specs.declared.words.WordOp.TheVariants as op
@@ -12,7 +13,7 @@ use Rattle.word_ir.specs.declared.words.Words.{Words}
 use Rattle.word_ir.specs.Lines.{Op, Last, line_in, line_at}
 use Rattle.word_drafts.specs.declared.drafts.Draft.{Draft}
 use Rattle.word_trees.specs.Trees.{Tree, Do, Close, Spells}
-use Rattle.word_drafts.specs.Drafts.{IsBegun, IsProper, Extends, SpellsNext, Ends, Adds, WritesApart}
+use Rattle.word_drafts.specs.Drafts.{IsBegun, IsProper, Extends, SpellsNext, Ends, Adds, WritesApart, Begins, Finishes}
 
 -- ---- lists
 
@@ -81,6 +82,7 @@ module _ (old new : Draft) (end : WordEnd) (p : IsProper old) (h : Ends end old 
         x.done k (record { there = omega (arith, longer, d.there); other = λ eq. absurd (omega (arith, eq, h.number, d.there)); begun = begun_same old new k h.begun h.heads d.begun })
         ∙ (at_new k d.there ∙ get_set_other old.blocks.items old.number k h.block d.other);
     lines = λ k o at. line_is words old.number k h.block o (block_there words x) (ap (λ os. slice_get os k) h.ops ∙ at);
+    params = λ lt b at. ap (λ y. option_map_or (λ block. block.params) y []) (sym at ∙ block_there words x) ∙ h.params;
   }
 
   pub end_there : (words : Words) → Extends words new → line_at words old.number (length old.ops.items) ≡ Some (Last end)
@@ -112,6 +114,7 @@ module _ (old new : Draft) (ops : List WordOp) (end : WordEnd) (place : ℕ) (p 
         x.done k (record { there = omega (arith, more, d.there); other = λ eq. d.other (eq ∙ h.number); begun = begun_same old new k h.begun h.heads d.begun })
         ∙ (ap (λ bs. slice_get bs k) h.blocks ∙ get_left old.blocks.items (h.block ∷ []) k d.there);
     lines = λ k o at. subst (λ n. line_at words n k ≡ Some (Op o)) h.number (x.lines k o (ap (λ os. slice_get os k) h.ops ∙ at));
+    params = λ lt b at. sym (sym h.params ∙ sym (x.params (omega (arith, lt, h.number, h.heads)) b (ap (slice_get words.blocks.items) h.number ∙ at)));
   }
 
   added_there : (words : Words) → Extends words new → slice_get words.blocks.items place ≡ Some h.block
@@ -144,3 +147,51 @@ pub stop_apart : (old new : Draft) (ops : List WordOp) (place : ℕ) → IsPrope
 stop_apart old new ops place p is h =
     writes_apart old new ops last.Stop place p h (Close last.Stop)
     (λ words x. added_last old new ops last.Stop place p h words 0 x (ap (λ os. slice_get os 0) is))
+
+-- ---- the first blocks
+
+none_is : {X Z : Type 0} (v : X) → None ≡ Some v → Z
+none_is v h = cc
+
+none_there : (ops : List WordOp) (k : ℕ) (o : WordOp) {X : Type 0} → length ops ≡ 0 → slice_get ops k ≡ Some o → X
+none_there [] k o none at = none_is o at
+none_there (x ∷ ops) k o none at = absurd (omega (arith, none))
+
+pub begins_block : (old new : Draft) (place : ℕ) (params : List Var) → IsProper old → place ≡ old.begun → place < old.heads → old.heads ≤ old.number → length old.ops.items ≡ 0
+    → new.blocks ≡ old.blocks → new.heads ≡ old.heads → new.begun ≡ place + 1 → new.number ≡ place → new.ops ≡ old.ops → new.params ≡ params → Begins place params old new
+begins_block old new place params p is lt ge none blocks heads begun number ops ps = record {
+  proper = record {
+    there = omega (arith, ap (λ bs. length bs.items) blocks, number, lt, p.all);
+    begun = inl (omega (arith, number, begun));
+    few = omega (arith, begun, heads, lt);
+    all = omega (arith, ap (λ bs. length bs.items) blocks, heads, p.all);
+  };
+  extends = λ words x. record {
+    done = λ k d.
+        x.done k (record {
+          there = omega (arith, ap (λ bs. length bs.items) blocks, d.there);
+          other = λ eq. still k d.begun (eq ∙ number);
+          begun = later k d.begun;
+        })
+        ∙ ap (λ bs. slice_get bs.items k) blocks;
+    lines = λ k o at. none_there old.ops.items k o none at;
+    params = λ less b at. absurd (omega (arith, less, ge));
+  };
+  spelled = λ words tree s.
+      subst (λ n. Spells words n 0 tree) number (subst (λ n. Spells words new.number n tree) (ap (λ os. length os.items) ops ∙ none) s);
+  head = λ words b x at. x.params (omega (arith, number, heads, lt)) b (ap (slice_get words.blocks.items) number ∙ at) ∙ ps;
+}
+  where
+    still : (k : ℕ) → IsBegun old k → k ≡ place → ⊥
+    still k (inl less) eq = omega (arith, less, eq, is)
+    still k (inr more) eq = omega (arith, more, eq, lt)
+    later : (k : ℕ) → IsBegun old k → IsBegun new k
+    later k (inl less) = inl (omega (arith, less, begun, is))
+    later k (inr more) = inr (omega (arith, more, heads))
+
+pub finishes : (d : Draft) → d.heads ≤ d.number → length d.ops.items ≡ 0 → Finishes d.blocks.items d
+finishes d ge none words eq = record {
+  done = λ k done. ap (λ bs. slice_get bs k) eq;
+  lines = λ k o at. none_there d.ops.items k o none at;
+  params = λ less b at. absurd (omega (arith, less, ge));
+}

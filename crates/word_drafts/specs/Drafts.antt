@@ -1,5 +1,6 @@
 -- What is written so far of a program of words, and what a call writes.
 use Rattle.std.specs.Prelude.{◌≡◌, ℕ, ◌<◌, ◌≤◌, ◌⊎◌, List, [], ◌∷◌, ◌++◌, length, slice_get, slice_set, Some}
+use Rattle.t_base.specs.declared.basics.Var.{Var}
 use Rattle.word_ir.specs.declared.operands.Operand.{Operand}
 use Rattle.word_ir.specs.declared.words.Test.{Test}
 use Rattle.word_ir.specs.declared.words.WordOp.{WordOp}
@@ -28,10 +29,11 @@ pub record IsDone (d : Draft) (k : ℕ) : Type 0 where
   pub other : k ≡ d.number → ⊥
   pub begun : IsBegun d k
 
--- a program that has the blocks which are done, and the operations so far of the one under way
+-- a program that has the blocks which are done, and the operations so far of the one under way, and its parameters where its number is from the first ones
 pub record Extends (words : Words) (d : Draft) : Type 0 where
   pub done : (k : ℕ) → IsDone d k → slice_get words.blocks.items k ≡ slice_get d.blocks.items k
   pub lines : (k : ℕ) (o : WordOp) → slice_get d.ops.items k ≡ Some o → line_at words d.number k ≡ Some (Op o)
+  pub params : d.number < d.heads → (block : WordBlock) → slice_get words.blocks.items d.number ≡ Some block → block.params ≡ d.params
 
 -- where a tree is spelled from the next line on
 abbrev pub SpellsNext : Words → Draft → Tree → Type 0
@@ -43,6 +45,17 @@ pub record Writes (front : Tree → Tree) (old new : Draft) : Type 0 where
   pub proper : IsProper old → IsProper new
   pub extends : (words : Words) → Extends words new → Extends words old
   pub spells : (words : Words) (rest : Tree) → Extends words new → SpellsNext words new rest → SpellsNext words old (front rest)
+
+-- One of the first blocks is begun: what is written next is its code, and it has these parameters.
+pub record Begins (place : ℕ) (params : List Var) (old new : Draft) : Type 0 where
+  pub proper : IsProper new
+  pub extends : (words : Words) → Extends words new → Extends words old
+  pub spelled : (words : Words) (tree : Tree) → SpellsNext words new tree → Spells words place 0 tree
+  pub head : (words : Words) (block : WordBlock) → Extends words new → slice_get words.blocks.items place ≡ Some block → block.params ≡ params
+
+-- a program that has these blocks
+abbrev pub Finishes : List WordBlock → Draft → Type 0
+Finishes blocks d = (words : Words) → words.blocks.items ≡ blocks → Extends words d
 
 -- The block under way has this end, and an empty one behind all is under way.
 pub record Ends (end : WordEnd) (old new : Draft) : Type 0 where
@@ -66,6 +79,7 @@ pub record Adds (written : List WordOp) (end : WordEnd) (place : ℕ) (old new :
   pub blocks : new.blocks.items ≡ old.blocks.items ++ block ∷ []
   pub number : new.number ≡ old.number
   pub ops : new.ops.items ≡ old.ops.items
+  pub params : new.params ≡ old.params
   pub heads : new.heads ≡ old.heads
   pub begun : new.begun ≡ old.begun
 

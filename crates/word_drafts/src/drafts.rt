@@ -1,6 +1,8 @@
 //! A program under way.
 
 ghost use Rattle.std.specs.Prelude.{◌≡◌, ◌<◌, IfOk, OnOk, length, slice_set, [], ◌∷◌};
+ghost use Rattle.word_ir.specs.declared.operands.Operand.TheVariants as operand;
+ghost use Rattle.word_ir.specs.declared.words.WordOp.TheVariants as op;
 ghost use Rattle.word_trees.specs.Trees.{Do, Or, Ask, Compute, Take, Push};
 ghost use Rattle.select_rows.specs.Macros.{fault, never};
 ghost use Rattle.select_rows.specs.Codes.{no_heap};
@@ -23,7 +25,7 @@ pub struct Draft {
     pub ops: Vec<WordOp>,
 }
 
-fn empty_block(alloc: Global) -> WordBlock {
+pub(crate) fn empty_block(alloc: Global) -> WordBlock {
     WordBlock {
         params: Vars::from_vec(Vec::new(alloc)),
         ops: Vec::new(alloc),
@@ -105,6 +107,23 @@ impl Draft {
         let mut args = Vec::new(alloc);
         args.push(bytes)?;
         args.push(Operand::Word(0))?;
+        let mut ops = Vec::new(alloc);
+        ops.push(WordOp::Service {
+            number: 4,
+            args: Operands::from_vec(args),
+        })?;
+        let place = self.behind(alloc, ops, WordEnd::Stop)?;
+        Ok(place)
+    }
+
+    /// A block that ends the run for want of so many bytes of the heap (0) or of the stack (1), and its number. The only error is the want of memory.
+    pub fn full(&mut self, alloc: Global, bytes: Operand, kind: u32) -> Result<u32, Memory>
+        requires { IsProper self.old }
+        ensures { IfOk result (λ place. WritesApart (Do (op.Service 4 (bytes ∷ operand.Word kind ∷ [])) never) place self.old self.new) }
+    {
+        let mut args = Vec::new(alloc);
+        args.push(bytes)?;
+        args.push(Operand::Word(kind))?;
         let mut ops = Vec::new(alloc);
         ops.push(WordOp::Service {
             number: 4,

@@ -3,6 +3,7 @@
 #![tactic(auto)]
 
 mod drafts;
+mod heads;
 mod macros;
 
 pub use crate::drafts::Draft;

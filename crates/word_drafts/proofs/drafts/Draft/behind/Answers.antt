@@ -10,6 +10,7 @@ returns c = record {
   blocks = search rules;
   number = refl;
   ops = refl;
+  params = refl;
   heads = refl;
   begun = refl;
 }
