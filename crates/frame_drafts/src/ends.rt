@@ -6,8 +6,7 @@ ghost use Rattle.frame_stacks.specs.Codes.{give_back, jump};
 ghost use Rattle.frame_calls.specs.Codes.{call_code};
 ghost use Rattle.word_selection.specs.Codes.{test_code};
 ghost use Rattle.frame_ends.specs.Laws.{halt};
-ghost use Rattle.word_drafts.specs.Drafts.{IsProper, Writes};
-ghost use Rattle.frame_drafts.specs.Ends.{ended};
+ghost use Rattle.word_drafts.specs.Drafts.{IsProper, Closes};
 
 use crate::runs::store_operands;
 use std::alloc::Global;
@@ -18,10 +17,10 @@ use word_ir::{Operand, Operands, Test, WordEnd, WordOp};
 /// The run halts with a value. The only error is the want of memory.
 pub fn halt(draft: &mut Draft, alloc: Global, x: Operand) -> Result<(), Memory>
     requires { IsProper draft.old }
-    ensures { OnOk result (Writes (ended (halt x)) draft.old draft.new) }
+    ensures { OnOk result (Closes (halt x) draft.old draft.new) }
 {
     draft.put(alloc, 0, x)?;
-    draft.stop(alloc)?;
+    draft.close(alloc, WordEnd::Stop)?;
     Ok(())
 }
 
@@ -33,7 +32,7 @@ pub fn jump(
     args: Operands,
 ) -> Result<(), Memory>
     requires { IsProper draft.old }
-    ensures { OnOk result (Writes (ended (jump block args)) draft.old draft.new) }
+    ensures { OnOk result (Closes (jump block args) draft.old draft.new) }
 {
     draft.close(alloc, WordEnd::Jump { block, args })?;
     Ok(())
@@ -42,7 +41,7 @@ pub fn jump(
 /// A word goes to the way back of the youngest frame. The only error is the want of memory.
 pub fn give_back(draft: &mut Draft, alloc: Global, t: u32, x: Operand) -> Result<(), Memory>
     requires { IsProper draft.old }
-    ensures { OnOk result (Writes (ended (give_back t x)) draft.old draft.new) }
+    ensures { OnOk result (Closes (give_back t x) draft.old draft.new) }
 {
     let mut args = Vec::new(alloc);
     args.push(x)?;
@@ -66,7 +65,7 @@ pub fn test(
     second: u32,
 ) -> Result<(), Memory>
     requires { IsProper draft.old }
-    ensures { OnOk result (Writes (ended (test_code x first second)) draft.old draft.new) }
+    ensures { OnOk result (Closes (test_code x first second) draft.old draft.new) }
 {
     let end = WordEnd::Test {
         kind: Test::Eq,
@@ -103,7 +102,7 @@ pub fn call(
     args: &[Operand],
 ) -> Result<(), Memory>
     requires { IsProper draft.old }
-    ensures { OnOk result (Writes (ended (call_code target f args.now)) draft.old draft.new) }
+    ensures { OnOk result (Closes (call_code target f args.now) draft.old draft.new) }
 {
     let xs = passed(alloc, f, args)?;
     let first = args.len().min(5);

@@ -24,3 +24,6 @@ pub record ArePlaces (l : Layout) (shared : Shared) (places : Places) : Type 0 w
   pub globals : (g : ℕ) → word_at places.globals.items g ≡ or_zero (named_word l shared (Argument.Global g))
   pub operations : (o : ℕ) → word_at places.operations.items o ≡ or_zero (fixed_word l (OperationV o))
   pub builtins : (p : Builtin) → word_at places.builtins.items (number_of p) ≡ or_zero (fixed_word l (BuiltinV p))
+  pub templates : (t : ℕ) → word_at places.templates.items t ≡ or_zero (fixed_address l (TemplateOf t))
+  pub entries : (k : ℕ) → word_at places.entries.items k ≡ l.closure_entry k
+  pub builtin_entries : (p : Builtin) → word_at places.builtin_entries.items (number_of p) ≡ l.builtin_entry p

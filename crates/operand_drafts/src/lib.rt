@@ -5,4 +5,4 @@ mod arguments;
 mod places;
 
 pub use crate::arguments::{operand, operands};
-pub use crate::places::Places;
+pub use crate::places::{Places, number_of, word_at};

@@ -16,10 +16,20 @@ pub struct Places {
     pub globals: Vec<u32>,
     pub operations: Vec<u32>,
     pub builtins: Vec<u32>,
+    /// The addresses of the methods of templates.
+    pub templates: Vec<u32>,
+    /// The blocks that enter the codes of closures, and those of builtins.
+    pub entries: Vec<u32>,
+    pub builtin_entries: Vec<u32>,
+    /// For each global that is a procedure the block that enters its code, for others the one that makes calls of what isn't known.
+    pub global_entries: Vec<u32>,
+    pub apply: u32,
+    /// A number above those of all variables.
+    pub free: u32,
 }
 
 /// What stands at a place of a table, 0 behind its end.
-pub(crate) fn word_at(table: &[u32], n: u32) -> u32
+pub fn word_at(table: &[u32], n: u32) -> u32
     ensures { result ≡ word_at table.now n }
 {
     match table.get(n as usize) {

@@ -11,9 +11,9 @@ use Rattle.word_ir.specs.declared.words.WordEnd.{WordEnd}
 use Rattle.word_ir.specs.declared.words.WordEnd.TheVariants as last
 use Rattle.word_ir.specs.declared.words.Words.{Words}
 use Rattle.word_drafts.specs.declared.drafts.Draft.{Draft}
-use Rattle.word_trees.specs.Trees.{Tree, Do, Ask, Spells}
+use Rattle.word_trees.specs.Trees.{Tree, Do, Ask, Close, Spells}
 use Rattle.select_rows.specs.Macros.{word, by_test, meet, choose}
-use Rattle.word_drafts.specs.Drafts.{IsProper, Extends, SpellsNext, Writes, Ends, WritesApart, WritesBeside, WritesTestApart, Adds, ends_here, ends_by}
+use Rattle.word_drafts.specs.Drafts.{IsProper, Extends, SpellsNext, Writes, Ends, WritesApart, WritesBeside, WritesTestApart, Adds, ends_here, Closes}
 use Rattle.word_drafts.proofs.Writing.{proper_ended, extends_ended, end_there, spelled_whole, proper_added, extends_added, added_last}
 
 pub then_writes : (f g : Tree → Tree) (a b c : Draft) → Writes f a b → Writes g b c → Writes (λ rest. f (g rest)) a c
@@ -105,9 +105,16 @@ fork_apart kind x y first second one other place a b c d h k m = record {
   same = λ words rest s. h.same words rest (k.same words rest (m.same words rest s));
 }
 
-pub close_writes : (a b : Draft) (end : WordEnd) → IsProper a → Ends end a b → Writes (ends_by end) a b
-close_writes a b end p h = record {
+pub close_closes : (a b : Draft) (end : WordEnd) → IsProper a → Ends end a b → Closes (Close end) a b
+close_closes a b end p h = record {
   proper = λ q. proper_ended a b end p h;
   extends = λ words x. extends_ended a b end p h words x;
-  spells = λ words rest x s. end_there a b end p h words x;
+  spelled = λ words x. end_there a b end p h words x;
+}
+
+pub then_closes : (f : Tree → Tree) (tree : Tree) (a b c : Draft) → Writes f a b → Closes tree b c → Closes (f tree) a c
+then_closes f tree a b c h k = record {
+  proper = λ p. k.proper (h.proper p);
+  extends = λ words x. h.extends words (k.extends words x);
+  spelled = λ words x. h.spells words tree (k.extends words x) (k.spelled words x);
 }

@@ -8,7 +8,7 @@ use Rattle.word_ir.specs.declared.words.WordEnd.{WordEnd}
 use Rattle.word_ir.specs.declared.words.WordBlock.{WordBlock}
 use Rattle.word_ir.specs.declared.words.Words.{Words}
 use Rattle.word_ir.specs.Lines.{Op, line_at}
-use Rattle.word_trees.specs.Trees.{Tree, Ask, Close, Spells}
+use Rattle.word_trees.specs.Trees.{Tree, Ask, Spells}
 use Rattle.select_rows.specs.Macros.{never}
 use Rattle.word_drafts.specs.declared.drafts.Draft.{Draft}
 
@@ -111,5 +111,8 @@ pub record WritesTestApart (kind : Test) (a b : Operand) (one other place : ℕ)
 abbrev pub ends_here : Tree → Tree
 ends_here rest = never
 
-abbrev pub ends_by : WordEnd → Tree → Tree
-ends_by end rest = Close end
+-- The tree is written to its end, whatever is written behind it.
+pub record Closes (tree : Tree) (old new : Draft) : Type 0 where
+  pub proper : IsProper old → IsProper new
+  pub extends : (words : Words) → Extends words new → Extends words old
+  pub spelled : (words : Words) → Extends words new → SpellsNext words old tree

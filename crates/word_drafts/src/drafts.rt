@@ -3,10 +3,10 @@
 ghost use Rattle.std.specs.Prelude.{◌≡◌, ◌<◌, IfOk, OnOk, length, slice_set, [], ◌∷◌};
 ghost use Rattle.word_ir.specs.declared.operands.Operand.TheVariants as operand;
 ghost use Rattle.word_ir.specs.declared.words.WordOp.TheVariants as op;
-ghost use Rattle.word_trees.specs.Trees.{Do, Or, Ask, Compute, Take, Push};
+ghost use Rattle.word_trees.specs.Trees.{Do, Or, Ask, Close, Compute, Take, Push};
 ghost use Rattle.select_rows.specs.Macros.{fault, never};
 ghost use Rattle.select_rows.specs.Codes.{no_heap};
-ghost use Rattle.word_drafts.specs.Drafts.{IsProper, Writes, Ends, Adds, WritesApart, WritesBeside, WritesTestApart, unless_true, ends_here, ends_by};
+ghost use Rattle.word_drafts.specs.Drafts.{IsProper, Writes, Ends, Adds, WritesApart, WritesBeside, WritesTestApart, unless_true, ends_here, Closes};
 
 use std::alloc::Global;
 use std::mem;
@@ -269,7 +269,7 @@ impl Draft {
     /// The block under way has an end, and an empty one is under way. The only error is the want of memory.
     pub fn close(&mut self, alloc: Global, end: WordEnd) -> Result<(), Memory>
         requires { IsProper self.old }
-        ensures { OnOk result (Writes (ends_by end) self.old self.new) }
+        ensures { OnOk result (Closes (Close end) self.old self.new) }
     {
         self.split(alloc, end)?;
         Ok(())
