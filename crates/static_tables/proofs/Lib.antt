@@ -1,1 +1,3 @@
-mod TableLemmas
+pub mod TableLemmas
+pub mod Same
+pub mod AddLemmas

@@ -1,6 +1,7 @@
 -- Words in tables, and the words of bytes.
-use Rattle.std.proofs.Common.{◌≡◌, ℕ, zero, suc, ◌+◌, ◌<◌, ◌/◌, ◌%◌, ◌==◌, Bool, true, false, if◌then◌else◌, List, [], ◌∷◌, ◌++◌, length, set, refl, sym, ap, ◌∙◌, subst, arith}
+use Rattle.std.proofs.Common.{◌≡◌, ℕ, zero, suc, ◌+◌, ◌<◌, ◌≤◌, ◌/◌, ◌%◌, ◌==◌, Bool, true, false, if◌then◌else◌, List, [], ◌∷◌, ◌++◌, length, set, refl, sym, ap, ◌∙◌, subst, arith}
 use Rattle.std.proofs.lemmas.Bool.{eqb-true, eq-eqb, true≢false}
+use Rattle.frame_ir.specs.Calls.{methods_of}
 use Rattle.frame_words.specs.Layouts.{packed}
 use Rattle.operand_drafts.specs.Places.{word_at}
 
@@ -30,11 +31,21 @@ word_set xs i w lt m = by_test (i == m) refl
     by_test true e = subst (λ z. word_at (set xs i w) z ≡ w) (eqb-true i m e) (word_there xs i w lt)
     by_test false e = word_apart xs i w m (λ q. true≢false (sym (eq-eqb i m q) ∙ e))
 
-pub packed_length : (bytes : List ℕ) → (length bytes % 4 ≡ 0 → length (packed bytes) ≡ length bytes / 4) × ((length bytes % 4 ≡ 0 → ⊥) → length (packed bytes) ≡ length bytes / 4 + 1)
-packed_length [] = ((λ e. refl), λ ne. absurd (ne refl))
-packed_length (a ∷ []) = ((λ e. absurd (omega (arith, e))), λ ne. refl)
-packed_length (a ∷ b ∷ []) = ((λ e. absurd (omega (arith, e))), λ ne. refl)
-packed_length (a ∷ b ∷ c ∷ []) = ((λ e. absurd (omega (arith, e))), λ ne. refl)
-packed_length (a ∷ b ∷ c ∷ d ∷ rest) =
-    let h = packed_length rest in
-    ((λ e. let q = h.0 (omega (arith, e)) in omega (arith, q, e)), λ ne. let q = h.1 (λ z. ne (omega (arith, z))) in omega (arith, q))
+pub packed_length : (bytes : List ℕ) → length (packed bytes) ≡ (length bytes + 3) / 4
+packed_length [] = refl
+packed_length (a ∷ []) = refl
+packed_length (a ∷ b ∷ []) = refl
+packed_length (a ∷ b ∷ c ∷ []) = refl
+packed_length (a ∷ b ∷ c ∷ d ∷ rest) = let h = packed_length rest in omega (arith, h)
+
+-- as many methods as the shorter list has items
+pub methods_short : (ops codes : List ℕ) → length ops ≤ length codes → length ops ≡ length (methods_of ops codes)
+methods_short [] codes lt = refl
+methods_short (o ∷ ops) [] lt = absurd (omega (arith, lt))
+methods_short (o ∷ ops) (code ∷ codes) lt = ap suc (methods_short ops codes (omega (arith, lt)))
+
+pub methods_long : (ops codes : List ℕ) → length codes ≤ length ops → length codes ≡ length (methods_of ops codes)
+methods_long [] [] le = refl
+methods_long [] (code ∷ codes) le = absurd (omega (arith, le))
+methods_long (o ∷ ops) [] le = refl
+methods_long (o ∷ ops) (code ∷ codes) le = ap suc (methods_long ops codes (omega (arith, le)))

@@ -82,10 +82,10 @@ pub record AreStatics (p : Frames) (s : Statics) : Type 0 where
 -- ---- what is added
 
 -- one thing more behind all
-pub record IsAppended (x : Thing) (words : ℕ) (old new : Statics) : Type 0 where
+pub record IsAppended (x : Thing) (count : ℕ) (old new : Statics) : Type 0 where
   pub things : new.things.items ≡ old.things.items ++ x ∷ []
   pub table : (m : ℕ) → word_at new.table.items m ≡ (if index_of (fixed_of x) == m then STATICS_START + 4 * old.words + tag_for (fixed_of x) else word_at old.table.items m)
-  pub words : new.words ≡ old.words + words
+  pub words : new.words ≡ old.words + count
   pub few : new.words ≤ 2 ^ 25
 
 -- some things stand there besides those that did

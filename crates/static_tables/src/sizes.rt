@@ -25,6 +25,7 @@ fn even(words: usize) -> Result<u32, Memory>
 }
 
 /// The words of bytes, four a word.
+#[tactic(auto, using(crate::proofs::TableLemmas::packed_length))]
 fn packed_words(bytes: &[u8]) -> usize
     ensures { result ≡ length (packed bytes.now) }
 {
@@ -39,7 +40,10 @@ fn packed_words(bytes: &[u8]) -> usize
 fn text_words(bytes: &[u8]) -> Result<u32, Memory>
     ensures { IfOk result (λ words. words ≡ even (2 + length (packed bytes.now))) }
 {
-    even(2 + packed_words(bytes))
+    let Some(words) = 2_usize.checked_add(packed_words(bytes)) else {
+        return Err(Memory);
+    };
+    even(words)
 }
 
 fn literal_words(frames: &Frames, k: u32) -> Result<u32, Memory>
@@ -61,6 +65,7 @@ fn name_words(frames: &Frames, n: u32) -> Result<u32, Memory>
     }
 }
 
+#[tactic(auto, using(crate::proofs::TableLemmas::methods_short, crate::proofs::TableLemmas::methods_long))]
 fn method_count(template: &Template) -> usize
     ensures { result ≡ length (methods_of template.now.ops template.now.codes) }
 {
