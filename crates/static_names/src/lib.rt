@@ -5,5 +5,5 @@
 mod naming;
 mod things;
 
-pub use crate::naming::{is_procedure, named};
+pub use crate::naming::{is_procedure, named, push_const};
 pub use crate::things::Thing;

@@ -10,7 +10,8 @@ use frame_ir::{Block, FrameEnd, FrameOp, Frames, Place};
 use std::alloc::Global;
 use t_base::{Const, Global1, GlobalKind, Memory};
 
-fn push_const(c: Const, things: &mut Vec<Thing>) -> Result<(), Memory>
+/// Puts what a constant names last. The only error is the want of memory.
+pub fn push_const(c: Const, things: &mut Vec<Thing>) -> Result<(), Memory>
     ensures { OnOk result (things.new.items ≡ things.old.items ++ of_const c) }
 {
     match c {

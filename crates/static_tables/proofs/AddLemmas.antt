@@ -18,7 +18,7 @@ use Rattle.static_tables.specs.Tables.{words_of, front_of, tag_for, address_in, 
 
 -- ---- things by kind and number
 
-false_of : (b : Bool) → (b ≡ true → ⊥) → b ≡ false
+pub false_of : (b : Bool) → (b ≡ true → ⊥) → b ≡ false
 false_of true h = absurd (h refl)
 false_of false h = refl
 

@@ -2,8 +2,11 @@
 //! symbols, the parts of its quoted pairs and the operations of its templates.
 #![tactic(auto)]
 
+mod gathering;
+mod parts;
 mod sizes;
 mod statics;
 mod tables;
 
+pub use crate::gathering::gather;
 pub use crate::statics::Statics;

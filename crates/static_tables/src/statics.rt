@@ -28,7 +28,7 @@ pub struct Statics {
 
 impl Statics {
     /// No things. The only error is the want of memory.
-    fn new(alloc: Global, frames: &Frames) -> Result<Statics, Memory>
+    pub(crate) fn new(alloc: Global, frames: &Frames) -> Result<Statics, Memory>
         ensures statics { IfOk result (AreStatics frames.now) }
         ensures none { IfOk result (λ statics. statics.things.items ≡ []) }
     {
