@@ -1,0 +1,41 @@
+// The words of strings.
+ghost use Rattle.std.specs.Prelude.{◌≡◌, ◌+◌, ◌*◌, ◌<◌, ◌++◌, map, length, get_or, OnOk};
+ghost use Rattle.word_ir.specs.declared.words.StaticWord.TheVariants as first;
+ghost use Rattle.frame_words.specs.Layouts.{packed};
+ghost use Rattle.static_words.specs.Words.{packed_at, text_words};
+
+use t_base::Memory;
+use word_ir::StaticWord;
+
+/// A byte, 0 behind the end.
+fn byte_at(bytes: &[u8], at: usize) -> u32
+    ensures is { result ≡ get_or bytes.now at 0 }
+    ensures small { result < 256 }
+{
+    match bytes.get(at) {
+        None => 0,
+        Some(byte) => u32::from(*byte),
+    }
+}
+
+/// The word of four bytes, with zeros behind the end.
+fn packed_at(bytes: &[u8], at: usize) -> u32
+    requires { at < length bytes.now }
+    ensures { result ≡ packed_at bytes.now at }
+{
+    byte_at(bytes, at) * 16_777_216
+        + byte_at(bytes, at.saturating_add(1)) * 65_536
+        + byte_at(bytes, at.saturating_add(2)) * 256
+        + byte_at(bytes, at.saturating_add(3))
+}
+
+fn push_packed(bytes: &[u8], words: &mut Vec<StaticWord>) -> Result<(), Memory>
+    ensures { OnOk result (words.new.items ≡ words.old.items ++ map first.Word (packed bytes.now)) }
+{
+    let mut at = 0;
+    while at < bytes.len() {
+        words.push(StaticWord::Word(packed_at(bytes, at)))?;
+        at = at.saturating_add(4);
+    }
+    Ok(())
+}
