@@ -1,0 +1,4 @@
+pub mod TableLemmas
+pub mod Same
+pub mod AddLemmas
+pub mod Closing

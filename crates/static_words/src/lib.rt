@@ -1,0 +1,8 @@
+//! The static words of a program with frames, written: those in front that runs change, and then the words of each thing.
+#![tactic(auto)]
+
+mod templates;
+mod texts;
+mod things;
+
+pub use crate::things::EntryBlocks;
