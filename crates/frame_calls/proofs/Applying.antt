@@ -108,10 +108,6 @@ module _ (words : Words) (sizes : Sizes) (l : Layout) (e : Escapes) (g : Ways) (
       (λ moves steps. here_leads words sizes (Calls sizes l e g u s f args target) 0 _
       (record { core = passed_on u second; holds = call_passed u x (Code target) a b; moves = moves; steps = steps; there = ap (λ ps. at (entering (words_in words sizes) second ps (map operand.Var (call_params t))) target 0 moves steps) params })))
 
-  pub passes_on : (n target : ℕ) (block : WordBlock) (x : Word) (a : Stamp) → h.word ≡ Number n → IsRead c.storage (moved n (pos 2)) (Code target) → slice_get words.blocks.items target ≡ Some block → block.params ≡ call_params t
-      → Performs words sizes (Calls sizes l e g t s f args target) 1 11 (pass_on t) (binding c (var (t + 7)) x a)
-  passes_on n target block x a is read there params = passes_on_to t n target block x a is read there params
-
 module _ (words : Words) (sizes : Sizes) (l : Layout) (e : Escapes) (g : Ways) (t : ℕ) (s : State) (i : ℕ) (k : Closure) (args : List Val) (c : Core) (h : HoldsCall sizes l e g t s (Lasting (ClosureV i)) args c) (there : slice_get s.closures i ≡ Some k) where
   code_by : (n : ℕ) → OnHeap s 2 (AClosure i) n ⊎ InStatics l 2 (ClosureOf i) n → IsRead c.storage (moved n (pos 2)) (Code (l.closure_entry k.code))
   code_by n (inl o) =

@@ -1,19 +1,15 @@
 -- What all operations have in common: the code is performed where the words stand, and what is performed goes on in a block or ends.
-use Rattle.std.proofs.Common.{◌≡◌, ℕ, ◌+◌, ◌-◌, ◌*◌, ◌/◌, ◌<◌, ◌≤◌, ◌⊎◌, inl, inr, ◌==◌, Bool, true, false, if◌then◌else◌, List, ◌∷◌, length, Option, Some, None, refl, sym, ap, ◌∙◌, subst, arith}
+use Rattle.std.proofs.Common.{◌≡◌, ℕ, ◌+◌, ◌*◌, ◌<◌, ◌≤◌, inl, ◌==◌, Bool, true, false, if◌then◌else◌, List, ◌∷◌, length, Option, Some, None, refl, sym, subst, arith}
 use Rattle.std.proofs.lemmas.Bool.{eqb-true}
-use Rattle.std.specs.List.{AllByRecursion}
-use Rattle.program_runs.specs.Runs.{End, Full}
-use Rattle.program_runs.specs.Follows.{after}
-use Rattle.t_base.specs.declared.basics.Var.{Var}
-use Rattle.word_ir.specs.Storage.{HEAP_START}
 use Rattle.word_ir.specs.Stamps.{Stamped}
 use Rattle.frame_ir.specs.declared.forms.FrameOp.{FrameOp}
 use Rattle.frame_ir.specs.declared.forms.FrameEnd.{FrameEnd}
 use Rattle.frame_ir.specs.Values.{Value, Env, value_at}
-use Rattle.frame_ir.specs.States.{Doing, Running, Ended, State, going, counted, or_wrong}
+use Rattle.frame_ir.specs.States.{Running, State, going, or_wrong}
 use Rattle.frame_ir.specs.Operations.{act}
+use Rattle.frame_ir.specs.Sizes.{FramesAreSmall}
 use Rattle.word_trees.specs.Trees.{Tree, Spells}
-use Rattle.word_trees.specs.Cores.{Core, at, ended}
+use Rattle.word_trees.specs.Cores.{Core, at}
 use Rattle.word_trees.specs.Leads.{Leads, Performs}
 use Rattle.frame_words.specs.Contents.{Escapes}
 use Rattle.frame_stacks.specs.Stacks.{Ways}
@@ -21,9 +17,9 @@ use Rattle.frame_stacks.specs.Frames.{HoldsVariable, Holds}
 use Rattle.frame_stacks.specs.Laws.{GoesOn}
 use Rattle.prim_holds.proofs.Keeping.{count_free}
 use Rattle.word_selection.specs.Codes.{IsCode, op_code}
-use Rattle.selection_steps.specs.Settings.{Setting, choice_of, layout_of, IsSound, IsFit, AreFit, IsFitEnd}
-use Rattle.selection_steps.specs.Related.{ways_of, Runs, HasEnded, Keeps, Stands}
-use Rattle.selection_steps.specs.Led.{most_moves, saved, Comes, Led}
+use Rattle.selection_steps.specs.Settings.{Setting, choice_of, layout_of, IsSound, IsFit}
+use Rattle.selection_steps.specs.Related.{ways_of, Runs, Keeps}
+use Rattle.selection_steps.specs.Led.{most_moves, saved, caught, paid, Comes, Led}
 
 -- ---- what must be there
 
@@ -71,7 +67,7 @@ module _ (m : Setting) where
   -- ---- what follows where the code is performed
 
   pub led_by : (s u : State) (x : Stamped) (Q : Stamped → Type 0) (cost : ℕ) (tree : Tree) (c : Core) (block place moves steps : ℕ) → Spells m.words block place tree → x ≡ at c block place moves steps
-      → Performs m.words m.sizes Q 1 cost tree c → ((y : Stamped) → Q y → Comes m s u y) → cost + saved u.doing + most_moves * s.moves ≤ saved s.doing + most_moves * u.moves → Led m s x u
+      → Performs m.words m.sizes Q 1 cost tree c → ((y : Stamped) → Q y → Comes m s u y) → cost + paid u + most_moves * s.moves ≤ paid s + most_moves * u.moves → Led m s x u
   led_by s u x Q cost tree c block place moves steps spelled there performs comes within =
       let o : Leads m.words m.sizes Q 1 cost (at c block place moves steps) = performs.leads block place moves steps spelled in
       subst (λ y. Led m s y u) (sym there)
@@ -83,6 +79,8 @@ module _ (m : Setting) where
     pub runs : Runs m s (op ∷ ops) last env x
     pub keeps : Keeps m s
     pub none : saved s.doing ≡ 0
+    pub small : FramesAreSmall m.p.shared.size s
+    pub marks : length x.marks.longs.heap ≡ length x.state.storage.heap
     pub t : ℕ
     pub above : free ≤ t
     pub rest : Tree
@@ -107,29 +105,36 @@ module _ (m : Setting) where
     pub below : AreBelow free env
     below = below_now sp.runs.escapes (ways_of m sp.runs.born) free s env sp.runs.core sp.runs.holds
 
-    pub spot_led : (u : State) (Q : Stamped → Type 0) (cost : ℕ) → Performs m.words m.sizes Q 1 cost (op_code (choice_of m) m.p.shared sp.t op ops sp.rest) sp.runs.core → ((y : Stamped) → Q y → Comes m s u y)
-        → cost + saved u.doing + most_moves * s.moves ≤ most_moves * u.moves → Led m s x u
-    spot_led u Q cost performs comes within =
+    pub spot_led_by : (u : State) (Q : Stamped → Type 0) (cost : ℕ) → Performs m.words m.sizes Q 1 cost (op_code (choice_of m) m.p.shared sp.t op ops sp.rest) sp.runs.core → ((y : Stamped) → Q y → Comes m s u y)
+        → cost + paid u + most_moves * s.moves ≤ paid s + most_moves * u.moves → Led m s x u
+    spot_led_by u Q cost performs comes within =
         let spelled : Spells m.words sp.runs.block sp.runs.place (op_code (choice_of m) m.p.shared sp.t op ops sp.rest) = subst (Spells m.words sp.runs.block sp.runs.place) sp.is sp.runs.spelled in
-        let none = sp.none in
-        led_by s u x Q cost (op_code (choice_of m) m.p.shared sp.t op ops sp.rest) sp.runs.core sp.runs.block sp.runs.place sp.runs.moves sp.runs.steps spelled sp.runs.there performs comes (omega (arith, within, none))
+        led_by s u x Q cost (op_code (choice_of m) m.p.shared sp.t op ops sp.rest) sp.runs.core sp.runs.block sp.runs.place sp.runs.moves sp.runs.steps spelled sp.runs.there performs comes within
+
+    -- no CATCH is opened or closed
+    pub spot_led : (u : State) → caught u.frames u.live ≡ caught s.frames s.live → (Q : Stamped → Type 0) (cost : ℕ) → Performs m.words m.sizes Q 1 cost (op_code (choice_of m) m.p.shared sp.t op ops sp.rest) sp.runs.core → ((y : Stamped) → Q y → Comes m s u y)
+        → cost + saved u.doing + most_moves * s.moves ≤ most_moves * u.moves → Led m s x u
+    spot_led u same Q cost performs comes within = let none = sp.none in spot_led_by u Q cost performs comes (omega (arith, within, none, same))
 
     -- on in the block, in a state that differs in counts alone
     pub goes_on : (v : State) (e : Escapes) (born : ℕ → ℕ) (env2 : Env) (moves : ℕ) (y : Stamped) → AreBelow free env2 → Keeps m v → GoesOn m.words m.sizes (layout_of m) e (ways_of m born) sp.t v env2 sp.rest y
         → Comes m s (record v { moves = moves; doing = Running ops last env2 }) y
-    goes_on v e born env2 moves y lower keeps o = inl (keeps, record {
-      escapes = e;
-      born = born;
-      core = o.core;
-      holds = count_free m.sizes (layout_of m) e (ways_of m born) free v env2 o.core moves (Running ops last env2) (held_above e (ways_of m born) sp.t v env2 o.core free lower o.holds);
-      tree = sp.rest;
-      code = sp.next;
-      fits = sp.runs.fits.1;
-      fits_end = sp.runs.fits_end;
-      block = o.block;
-      place = o.place;
-      moves = o.moves;
-      steps = o.steps;
-      spelled = o.spelled;
-      there = o.there;
-    })
+    goes_on v e born env2 moves y lower keeps o = inl (
+      keeps,
+      record {
+        escapes = e;
+        born = born;
+        core = o.core;
+        holds = count_free m.sizes (layout_of m) e (ways_of m born) free v env2 o.core moves (Running ops last env2) (held_above e (ways_of m born) sp.t v env2 o.core free lower o.holds);
+        tree = sp.rest;
+        code = sp.next;
+        fits = sp.runs.fits.1;
+        fits_end = sp.runs.fits_end;
+        block = o.block;
+        place = o.place;
+        moves = o.moves;
+        steps = o.steps;
+        spelled = o.spelled;
+        there = o.there;
+      },
+    )

@@ -1,7 +1,7 @@
 -- What it means that a program of words is selected for a program with frames.
-use Rattle.std.specs.Prelude.{◌≡◌, ℕ, ◌+◌, ◌-◌, ◌<◌, ◌≤◌, ◌⊎◌, List, [], ◌∷◌, ◌++◌, length, map, slice_get, All, Contains, Option, Some, true, is_some}
+use Rattle.std.specs.Prelude.{◌≡◌, ℕ, ◌+◌, ◌-◌, ◌<◌, ◌≤◌, ◌⊎◌, List, [], ◌++◌, length, map, slice_get, All, Contains, Option, Some, true, is_some}
 use Rattle.std.specs.List.{AllByRecursion, flat_map}
-use Rattle.std.specs.Option.{option_map}
+use Rattle.std.specs.Option.{option_map, option_map_or}
 use Rattle.t_base.specs.declared.basics.Var.{Var}
 use Rattle.t_base.specs.declared.builtins.Builtin.{Builtin}
 use Rattle.t_base.specs.SharedParts.{IsCopyOf}
@@ -15,7 +15,6 @@ use Rattle.frame_ir.specs.declared.forms.Place.TheVariants as At
 use Rattle.frame_ir.specs.declared.forms.FrameOp.{FrameOp}
 use Rattle.frame_ir.specs.declared.forms.FrameOp.TheVariants as Op
 use Rattle.frame_ir.specs.declared.forms.Block.{Block}
-use Rattle.frame_ir.specs.declared.forms.Template.{Template}
 use Rattle.frame_ir.specs.declared.forms.Frames.{Frames}
 use Rattle.frame_ir.specs.Arguments.{proc_count, default_count, code_of_default}
 use Rattle.frame_ir.specs.Calls.{methods_of}
@@ -89,7 +88,7 @@ pub record IsNamedAll (h : Choice) (p : Frames) : Type 0 where
   pub variables : All (λ x. x.0 < h.free) (flat_map (λ b. block_binds b) p.blocks.items)
   pub codes : (k : ℕ) → is_some (fixed_place h.layout (ClosureOf k)) ≡ true → IsClosureCode p k
   pub operations : (t o code : ℕ) → is_some (fixed_place h.layout (TemplateOf t)) ≡ true → Contains (h.layout.methods t) (o, code) → is_some (fixed_place h.layout (OperationOf o)) ≡ true
-  pub methods : (t : ℕ) (template : Template) → slice_get p.templates.items t ≡ Some template → h.layout.methods t ≡ methods_of template.ops template.codes
+  pub methods : (t : ℕ) → h.layout.methods t ≡ option_map_or (λ x. methods_of x.ops x.codes) (slice_get p.templates.items t) []
   pub defaults : (o : ℕ) → h.layout.default_entry o ≡ option_map h.layout.closure_entry (code_of_default p.shared o)
   pub globals : (k : ℕ) → k < proc_count p.shared → is_some (fixed_place h.layout (ClosureOf k)) ≡ true
 
