@@ -11,8 +11,8 @@ use t_base::{Memory, Var};
 use word_drafts::Draft;
 use word_ir::{Operand, WordOp};
 
-/// Variables as operands, behind others.
-fn push_vars(xs: &mut Vec<Operand>, vars: &[Var]) -> Result<(), Memory>
+/// Variables as operands, behind others. The only error is the want of memory.
+pub fn push_vars(xs: &mut Vec<Operand>, vars: &[Var]) -> Result<(), Memory>
     ensures { OnOk result (xs.new.items ≡ xs.old.items ++ map operand.Var vars.now) }
 {
     for v in vars {

@@ -7,7 +7,7 @@ mod reads;
 mod runs;
 
 pub use crate::ends::{call, give_back, halt, jump, test};
-pub use crate::frames::{pop_frame, push_frame};
+pub use crate::frames::{pop_frame, push_frame, push_vars};
 pub use crate::reads::{
     cell_get, cell_set, closure_get, frame_get, global_change, global_get, global_set,
 };
