@@ -32,7 +32,7 @@ use Rattle.frame_stacks.specs.Stacks.{Ways, IsLasting}
 use Rattle.frame_calls.specs.Codes.{params_from, call_params, pass_on, apply_code}
 use Rattle.frame_calls.specs.Calls.{HoldsCall, Calls}
 use Rattle.frame_calls.proofs.Passing.{word_bound, stamp_bound, param_at}
-use Rattle.frame_calls.proofs.Calling.{nothing_bound}
+use Rattle.frame_calls.proofs.Calling.{none_bound}
 
 other_kept : {X : Type 0} (env : word_state.Env X) (u v : ℕ) (x : X) → (u ≡ v → ⊥) → kept ((Own u, x) ∷ env) (Own v) ≡ kept env (Own v)
 other_kept env u v x ne = rw (ne_eqb u v ne) refl
@@ -55,10 +55,10 @@ module _ (words : Words) (sizes : Sizes) (l : Layout) (e : Escapes) (g : Ways) (
   abbrev two_more : Word → Stamp → Word → Stamp → Core
   two_more x a y b = binding (binding c (var (t + 7)) x a) (var (t + 8)) y b
 
-  abbrev passed_on : Core → Core
-  passed_on d = record d { env = bound_words (call_params t) (map (word_in d) (map operand.Var (call_params t))) []; stamps = bound_stamps (call_params t) (map (stamp_in (words_in words sizes) d) (map operand.Var (call_params t))) [] }
+  abbrev passed_on : ℕ → Core → Core
+  passed_on u d = record d { env = bound_words (call_params u) (map (word_in d) (map operand.Var (call_params t))) []; stamps = bound_stamps (call_params u) (map (stamp_in (words_in words sizes) d) (map operand.Var (call_params t))) [] }
 
-  module _ (x y : Word) (a b : Stamp) where
+  module _ (u : ℕ) (x y : Word) (a b : Stamp) where
     abbrev d : Core
     d = two_more x a y b
 
@@ -68,43 +68,45 @@ module _ (words : Words) (sizes : Sizes) (l : Layout) (e : Escapes) (g : Ways) (
     stamps_below : (i : ℕ) → i < 7 → kept d.stamps (Own (t + i)) ≡ kept c.stamps (Own (t + i))
     stamps_below i lt = other_kept ((Own (t + 7), a) ∷ c.stamps) (t + 8) (t + i) b (λ eq. absurd (omega (arith, eq, lt))) ∙ other_kept c.stamps (t + 7) (t + i) a (λ eq. absurd (omega (arith, eq, lt)))
 
-    word_passed : (i : ℕ) (w : Word) → i < 7 → kept c.env (Own (t + i)) ≡ Some w → kept (passed_on d).env (Own (t + i)) ≡ Some w
-    word_passed i w lt held = word_bound t 7 i (map (word_in d) (map operand.Var (call_params t))) [] w lt (passed_word d t 7 i lt ∙ ap Some (below_both i lt ∙ held))
+    word_passed : (i : ℕ) (w : Word) → i < 7 → kept c.env (Own (t + i)) ≡ Some w → kept (passed_on u d).env (Own (u + i)) ≡ Some w
+    word_passed i w lt held = word_bound u 7 i (map (word_in d) (map operand.Var (call_params t))) [] w lt (passed_word d t 7 i lt ∙ ap Some (below_both i lt ∙ held))
 
-    pub call_passed : HoldsCall sizes l e g t s f args (passed_on d)
+    pub call_passed : HoldsCall sizes l e g u s f args (passed_on u d)
     call_passed =
         let z : t ≡ t + 0 = omega arith in
+        let first : u ≡ u + 0 = omega arith in
         record {
-          holds = nothing_bound sizes l e g t s [] c (passed_on d).env (passed_on d).stamps h.holds;
-          count = ap (λ v. kept (passed_on d).env (Own v)) z ∙ word_passed 0 (Number (length args)) (omega arith) (sym (ap (λ v. kept c.env (Own v)) z) ∙ h.count);
+          holds = none_bound sizes l e g t u s [] c (passed_on u d).env (passed_on u d).stamps h.holds;
+          count = ap (λ v. kept (passed_on u d).env (Own v)) first ∙ word_passed 0 (Number (length args)) (omega arith) (sym (ap (λ v. kept c.env (Own v)) z) ∙ h.count);
           few = h.few;
           word = h.word;
           stamp = h.stamp;
           held = word_passed 1 h.word (omega arith) h.held;
-          stamped = ap some_stamp (stamp_bound t 7 1 (map (stamp_in (words_in words sizes) d) (map operand.Var (call_params t))) [] (some_stamp (kept d.stamps (Own (t + 1)))) (omega arith) (passed_stamp words sizes d t 7 1 (omega arith)))
+          stamped = ap some_stamp (stamp_bound u 7 1 (map (stamp_in (words_in words sizes) d) (map operand.Var (call_params t))) [] (some_stamp (kept d.stamps (Own (t + 1)))) (omega arith) (passed_stamp words sizes d t 7 1 (omega arith)))
               ∙ (ap some_stamp (stamps_below 1 (omega arith)) ∙ h.stamped);
           stands = h.stands;
           known = h.known;
           operands = λ i v at lt.
               let m : t + 2 + i ≡ t + (2 + i) = omega arith in
-              ap (λ u. kept (passed_on d).env (Own u)) m ∙ word_passed (2 + i) (Number (val_word l s v)) (omega (arith, lt)) (sym (ap (λ u. kept c.env (Own u)) m) ∙ h.operands i v at lt);
+              let n : u + 2 + i ≡ u + (2 + i) = omega arith in
+              ap (λ x. kept (passed_on u d).env (Own x)) n ∙ word_passed (2 + i) (Number (val_word l s v)) (omega (arith, lt)) (sym (ap (λ x. kept c.env (Own x)) m) ∙ h.operands i v at lt);
           others = h.others;
         }
 
   -- to a code that is read behind the header
-  pub passes_on : (n target : ℕ) (block : WordBlock) (x : Word) (a : Stamp) → h.word ≡ Number n → IsRead c.storage (moved n (pos 2)) (Code target) → slice_get words.blocks.items target ≡ Some block → block.params ≡ call_params t
-      → Performs words sizes (Calls sizes l e g t s f args target) 1 11 (pass_on t) (binding c (var (t + 7)) x a)
-  passes_on n target block x a is read there params =
-      let Q : Stamped → Type 0 = Calls sizes l e g t s f args target in
+  pub passes_on_to : (u n target : ℕ) (block : WordBlock) (x : Word) (a : Stamp) → h.word ≡ Number n → IsRead c.storage (moved n (pos 2)) (Code target) → slice_get words.blocks.items target ≡ Some block → block.params ≡ call_params u
+      → Performs words sizes (Calls sizes l e g u s f args target) 1 11 (pass_on t) (binding c (var (t + 7)) x a)
+  passes_on_to u n target block x a is read there params =
+      let Q : Stamped → Type 0 = Calls sizes l e g u s f args target in
       let first : Core = binding c (var (t + 7)) x a in
       let b : Stamp = some_stamp (long_at c.longs (moved n (pos 2))) in
       let second : Core = binding first (var (t + 8)) (Code target) b in
       let held : kept first.env (Own (t + 1)) ≡ Some (Number n) = other_kept c.env (t + 7) (t + 1) x (λ eq. absurd (omega (arith, eq))) ∙ (h.held ∙ ap Some is) in
-      load_performs words sizes (Calls sizes l e g t s f args target) n (Code target) held read.reads (may_read words sizes first (of_var (t + 1)) (moved n (pos 2)) read.outside)
-      (enters_performs words sizes (Calls sizes l e g t s f args target) 0 0 9 target (Close (last.Enter (of_var (t + 8)) (map operand.Var (call_params t)))) second (entering (words_in words sizes) second block.params (map operand.Var (call_params t)))
+      load_performs words sizes (Calls sizes l e g u s f args target) n (Code target) held read.reads (may_read words sizes first (of_var (t + 1)) (moved n (pos 2)) read.outside)
+      (enters_performs words sizes (Calls sizes l e g u s f args target) 0 0 9 target (Close (last.Enter (of_var (t + 8)) (map operand.Var (call_params t)))) second (entering (words_in words sizes) second block.params (map operand.Var (call_params t)))
       (enter_enters words sizes second (of_var (t + 8)) target block (map operand.Var (call_params t)) (newest_kept first.env (t + 8) (Code target)) there)
-      (λ moves steps. here_leads words sizes (Calls sizes l e g t s f args target) 0 _
-      (record { core = passed_on second; holds = call_passed x (Code target) a b; moves = moves; steps = steps; there = ap (λ ps. at (entering (words_in words sizes) second ps (map operand.Var (call_params t))) target 0 moves steps) params })))
+      (λ moves steps. here_leads words sizes (Calls sizes l e g u s f args target) 0 _
+      (record { core = passed_on u second; holds = call_passed u x (Code target) a b; moves = moves; steps = steps; there = ap (λ ps. at (entering (words_in words sizes) second ps (map operand.Var (call_params t))) target 0 moves steps) params })))
 
 module _ (words : Words) (sizes : Sizes) (l : Layout) (e : Escapes) (g : Ways) (t : ℕ) (s : State) (i : ℕ) (k : Closure) (args : List Val) (c : Core) (h : HoldsCall sizes l e g t s (Lasting (ClosureV i)) args c) (there : slice_get s.closures i ≡ Some k) where
   code_by : (n : ℕ) → OnHeap s 2 (AClosure i) n ⊎ InStatics l 2 (ClosureOf i) n → IsRead c.storage (moved n (pos 2)) (Code (l.closure_entry k.code))
@@ -120,8 +122,8 @@ module _ (words : Words) (sizes : Sizes) (l : Layout) (e : Escapes) (g : Ways) (
       subst (λ b. IsRead c.storage (moved n (pos 2)) (Code (l.closure_entry b))) code
       (subst (λ a. IsRead c.storage a (Code (l.closure_entry i))) address (fixed_word sizes l e s c.storage c.next c.output h.holds.data_held 2 (ClosureOf i) n 1 (Code (l.closure_entry i)) o refl))
 
-  pub applied : (block : WordBlock) (others : Tree) → slice_get words.blocks.items (l.closure_entry k.code) ≡ Some block → block.params ≡ call_params t → Performs words sizes (Calls sizes l e g t s (Lasting (ClosureV i)) args (l.closure_entry k.code)) 1 19 (apply_code t others) c
-  applied block others found params =
+  pub applied : (u : ℕ) (block : WordBlock) (others : Tree) → slice_get words.blocks.items (l.closure_entry k.code) ≡ Some block → block.params ≡ call_params u → Performs words sizes (Calls sizes l e g u s (Lasting (ClosureV i)) args (l.closure_entry k.code)) 1 19 (apply_code t others) c
+  applied u block others found params =
       let w : IsLasting l s (Lasting (ClosureV i)) h.word = h.stands in
       let n : ℕ = w.number in
       let tag : w.number % 4 ≡ 2 = tag_is l s (ClosureV i) w.number w.known in
@@ -129,10 +131,10 @@ module _ (words : Words) (sizes : Sizes) (l : Layout) (e : Escapes) (g : Ways) (
       let a : Stamp = some_stamp (long_at c.longs (moved w.number (negsuc 1))) in
       let first : Core = binding c (var (t + 7)) (Number 0x1D) a in
       let held : kept c.env (Own (t + 1)) ≡ Some (Number w.number) = h.held ∙ ap Some w.is in
-      ask_performs_true words sizes (Calls sizes l e g t s (Lasting (ClosureV i)) args (l.closure_entry k.code)) (Number w.number) (Number 0) held refl (ap Some (eq-eqb (w.number % 4) 2 tag))
-      (load_performs words sizes (Calls sizes l e g t s (Lasting (ClosureV i)) args (l.closure_entry k.code)) w.number (Number 0x1D) held header.reads (may_read words sizes c (of_var (t + 1)) (moved w.number (negsuc 1)) header.outside)
-      (ask_performs_true words sizes (Calls sizes l e g t s (Lasting (ClosureV i)) args (l.closure_entry k.code)) (Number 0x1D) (Number 0x1D) (newest_kept c.env (t + 7) (Number 0x1D)) refl refl
-      (passes_on words sizes l e g t s (Lasting (ClosureV i)) args c h w.number (l.closure_entry k.code) block (Number 0x1D) a w.is (code_by w.number (either l s 2 (AClosure i) (ClosureOf i) w.number w.known)) found params)))
+      ask_performs_true words sizes (Calls sizes l e g u s (Lasting (ClosureV i)) args (l.closure_entry k.code)) (Number w.number) (Number 0) held refl (ap Some (eq-eqb (w.number % 4) 2 tag))
+      (load_performs words sizes (Calls sizes l e g u s (Lasting (ClosureV i)) args (l.closure_entry k.code)) w.number (Number 0x1D) held header.reads (may_read words sizes c (of_var (t + 1)) (moved w.number (negsuc 1)) header.outside)
+      (ask_performs_true words sizes (Calls sizes l e g u s (Lasting (ClosureV i)) args (l.closure_entry k.code)) (Number 0x1D) (Number 0x1D) (newest_kept c.env (t + 7) (Number 0x1D)) refl refl
+      (passes_on_to words sizes l e g t s (Lasting (ClosureV i)) args c h u w.number (l.closure_entry k.code) block (Number 0x1D) a w.is (code_by w.number (either l s 2 (AClosure i) (ClosureOf i) w.number w.known)) found params)))
 
-pub closure_applied : (words : Words) (sizes : Sizes) (l : Layout) (e : Escapes) (g : Ways) (t : ℕ) (s : State) (i : ℕ) (k : Closure) (args : List Val) (c : Core) (block : WordBlock) (others : Tree) → HoldsCall sizes l e g t s (Lasting (ClosureV i)) args c → slice_get s.closures i ≡ Some k → slice_get words.blocks.items (l.closure_entry k.code) ≡ Some block → block.params ≡ call_params t → Performs words sizes (Calls sizes l e g t s (Lasting (ClosureV i)) args (l.closure_entry k.code)) 1 19 (apply_code t others) c
-closure_applied words sizes l e g t s i k args c block others h there found params = applied words sizes l e g t s i k args c h there block others found params
+pub closure_applied : (words : Words) (sizes : Sizes) (l : Layout) (e : Escapes) (g : Ways) (t u : ℕ) (s : State) (i : ℕ) (k : Closure) (args : List Val) (c : Core) (block : WordBlock) (others : Tree) → HoldsCall sizes l e g t s (Lasting (ClosureV i)) args c → slice_get s.closures i ≡ Some k → slice_get words.blocks.items (l.closure_entry k.code) ≡ Some block → block.params ≡ call_params u → Performs words sizes (Calls sizes l e g u s (Lasting (ClosureV i)) args (l.closure_entry k.code)) 1 19 (apply_code t others) c
+closure_applied words sizes l e g t u s i k args c block others h there found params = applied words sizes l e g t s i k args c h there u block others found params

@@ -32,14 +32,17 @@ use Rattle.frame_calls.specs.Calls.{HoldsCall, Calls}
 use Rattle.frame_calls.proofs.Passing.{word_bound, stamp_bound}
 use Rattle.frame_calls.proofs.Statics.{with_statics_of, front_read, values_held, word_of, stores_perform}
 
--- with nothing but other variables
-pub nothing_bound : (sizes : Sizes) (l : Layout) (e : Escapes) (g : Ways) (t : ℕ) (s : State) (env : Env) (c : Core) (ws : word_state.Env Word) (stamps : word_state.Env Stamp) → Holds sizes l e g t s env c → Holds sizes l e g t s [] (record c { env = ws; stamps = stamps })
-nothing_bound sizes l e g t s env c ws stamps h = record {
+-- with nothing but other variables, from any number on
+pub none_bound : (sizes : Sizes) (l : Layout) (e : Escapes) (g : Ways) (t u : ℕ) (s : State) (env : Env) (c : Core) (ws : word_state.Env Word) (stamps : word_state.Env Stamp) → Holds sizes l e g t s env c → Holds sizes l e g u s [] (record c { env = ws; stamps = stamps })
+none_bound sizes l e g t u s env c ws stamps h = record {
   data_held = h.data_held;
   frames = h.frames;
   escapes = record { inner = h.escapes.inner; made = h.escapes.made; frames = h.escapes.frames; caught = h.escapes.caught; outer = h.escapes.outer; stamps = h.escapes.stamps; closures_apart = h.escapes.closures_apart };
   variables = record { each = λ x v found. absurd (cc) };
 }
+
+pub nothing_bound : (sizes : Sizes) (l : Layout) (e : Escapes) (g : Ways) (t : ℕ) (s : State) (env : Env) (c : Core) (ws : word_state.Env Word) (stamps : word_state.Env Stamp) → Holds sizes l e g t s env c → Holds sizes l e g t s [] (record c { env = ws; stamps = stamps })
+nothing_bound sizes l e g t s env c ws stamps h = none_bound sizes l e g t t s env c ws stamps h
 
 module _ (words : Words) (sizes : Sizes) (l : Layout) (e : Escapes) (g : Ways) (t : ℕ) (s : State) where
   same_count : (c : Core) (xs : List Operand) (vs : List Val) → HaveValues words sizes l g t s c xs (map Lasting vs) → length xs ≡ length vs
@@ -85,51 +88,51 @@ module _ (words : Words) (sizes : Sizes) (l : Layout) (e : Escapes) (g : Ways) (
   take_count (suc n) [] = omega arith
   take_count (suc n) (x ∷ xs) = omega (arith, take_count n xs)
 
-  module _ (env : Env) (c : Core) (target : ℕ) (block : WordBlock) (f : Operand) (v : Value) (args : List Operand) (vs : List Val) (h : Holds sizes l e g t s env c) (hf : HasValue words sizes l g t s c f v) (hs : HaveValues words sizes l g t s c args (map Lasting vs)) (few : length args ≤ 20) (there : slice_get words.blocks.items target ≡ Some block) (params : block.params ≡ call_params t) where
+  module _ (u : ℕ) (env : Env) (c : Core) (target : ℕ) (block : WordBlock) (f : Operand) (v : Value) (args : List Operand) (vs : List Val) (h : Holds sizes l e g t s env c) (hf : HasValue words sizes l g t s c f v) (hs : HaveValues words sizes l g t s c args (map Lasting vs)) (few : length args ≤ 20) (there : slice_get words.blocks.items target ≡ Some block) (params : block.params ≡ call_params u) where
     abbrev passed : List Operand
     passed = word (length args) ∷ f ∷ take 5 args
 
     abbrev entered : Core
-    entered = record c { env = bound_words (call_params t) (map (word_in c) (word (length args) ∷ f ∷ take 5 args)) []; stamps = bound_stamps (call_params t) (map (stamp_in (words_in words sizes) c) (word (length args) ∷ f ∷ take 5 args)) [] }
+    entered = record c { env = bound_words (call_params u) (map (word_in c) (word (length args) ∷ f ∷ take 5 args)) []; stamps = bound_stamps (call_params u) (map (stamp_in (words_in words sizes) c) (word (length args) ∷ f ∷ take 5 args)) [] }
 
-    call_held : ((i : ℕ) (y : Val) → slice_get vs i ≡ Some y → 5 ≤ i → long_at c.storage (static_at (OPERANDS + (i - 5))) ≡ Some (Number (val_word l s y))) → HoldsCall sizes l e g t s v vs entered
+    call_held : ((i : ℕ) (y : Val) → slice_get vs i ≡ Some y → 5 ≤ i → long_at c.storage (static_at (OPERANDS + (i - 5))) ≡ Some (Number (val_word l s y))) → HoldsCall sizes l e g u s v vs entered
     call_held others =
         let n : length args ≡ length vs = same_count c args vs hs in
-        let zero_is : t ≡ t + 0 = omega arith in
+        let zero_is : u ≡ u + 0 = omega arith in
         record {
-          holds = nothing_bound sizes l e g t s env c entered.env entered.stamps h;
-          count = ap (λ x. kept entered.env (Own x)) zero_is ∙ (word_bound t 7 0 (map (word_in c) passed) [] (Number (length args)) (omega arith) refl ∙ ap (λ k. Some (Number k)) n);
+          holds = none_bound sizes l e g t u s env c entered.env entered.stamps h;
+          count = ap (λ x. kept entered.env (Own x)) zero_is ∙ (word_bound u 7 0 (map (word_in c) passed) [] (Number (length args)) (omega arith) refl ∙ ap (λ k. Some (Number k)) n);
           few = omega (arith, n, few);
           word = hf.word;
           stamp = hf.stamp;
-          held = word_bound t 7 1 (map (word_in c) passed) [] hf.word (omega arith) (ap Some hf.held);
-          stamped = ap some_stamp (stamp_bound t 7 1 (map (stamp_in (words_in words sizes) c) passed) [] (stamp_in (words_in words sizes) c f) (omega arith) refl) ∙ hf.stamped;
+          held = word_bound u 7 1 (map (word_in c) passed) [] hf.word (omega arith) (ap Some hf.held);
+          stamped = ap some_stamp (stamp_bound u 7 1 (map (stamp_in (words_in words sizes) c) passed) [] (stamp_in (words_in words sizes) c f) (omega arith) refl) ∙ hf.stamped;
           stands = hf.stands;
           known = all_known c args vs hs;
           operands = λ i y at lt.
-              let m : t + 2 + i ≡ t + (2 + i) = omega arith in
+              let m : u + 2 + i ≡ u + (2 + i) = omega arith in
               let k : 2 + i ≡ suc (suc i) = omega arith in
-              ap (λ x. kept entered.env (Own x)) m ∙ word_bound t 7 (2 + i) (map (word_in c) passed) [] (Number (val_word l s y)) (omega (arith, lt)) (ap (slice_get (map (word_in c) passed)) k ∙ first_words c 5 i args vs y hs at lt);
+              ap (λ x. kept entered.env (Own x)) m ∙ word_bound u 7 (2 + i) (map (word_in c) passed) [] (Number (val_word l s y)) (omega (arith, lt)) (ap (slice_get (map (word_in c) passed)) k ∙ first_words c 5 i args vs y hs at lt);
           others = others;
         }
 
-    pub enter_call : ((i : ℕ) (y : Val) → slice_get vs i ≡ Some y → 5 ≤ i → long_at c.storage (static_at (OPERANDS + (i - 5))) ≡ Some (Number (val_word l s y))) → Performs words sizes (Calls sizes l e g t s v vs target) 1 9 (Close (last.Enter (operand.Code target) passed)) c
+    pub enter_call : ((i : ℕ) (y : Val) → slice_get vs i ≡ Some y → 5 ≤ i → long_at c.storage (static_at (OPERANDS + (i - 5))) ≡ Some (Number (val_word l s y))) → Performs words sizes (Calls sizes l e g u s v vs target) 1 9 (Close (last.Enter (operand.Code target) passed)) c
     enter_call others =
         let k = take_count 5 args in
-        performs_more words sizes (Calls sizes l e g t s v vs target) 9 (omega (arith, k))
-        (enters_performs words sizes (Calls sizes l e g t s v vs target) 0 0 (2 + length passed) target (Close (last.Enter (operand.Code target) passed)) c (entering (words_in words sizes) c block.params passed)
+        performs_more words sizes (Calls sizes l e g u s v vs target) 9 (omega (arith, k))
+        (enters_performs words sizes (Calls sizes l e g u s v vs target) 0 0 (2 + length passed) target (Close (last.Enter (operand.Code target) passed)) c (entering (words_in words sizes) c block.params passed)
         (enter_enters words sizes c (operand.Code target) target block passed refl there)
-        (λ moves steps. here_leads words sizes (Calls sizes l e g t s v vs target) 0 _
+        (λ moves steps. here_leads words sizes (Calls sizes l e g u s v vs target) 0 _
         (record { core = entered; holds = call_held others; moves = moves; steps = steps; there = ap (λ ps. Rattle.word_trees.specs.Cores.at (entering (words_in words sizes) c ps passed) target 0 moves steps) params })))
 
-  pub whole_call : (env : Env) (c : Core) (target : ℕ) (block : WordBlock) (f : Operand) (v : Value) (args : List Operand) (vs : List Val) → Holds sizes l e g t s env c → HasValue words sizes l g t s c f v → HaveValues words sizes l g t s c args (map Lasting vs) → length args ≤ 20 → slice_get words.blocks.items target ≡ Some block → block.params ≡ call_params t → Performs words sizes (Calls sizes l e g t s v vs target) 1 (9 + 3 * length args) (call_code target f args) c
-  whole_call env c target block f v args vs h hf hs few there params =
+  pub whole_call : (u : ℕ) (env : Env) (c : Core) (target : ℕ) (block : WordBlock) (f : Operand) (v : Value) (args : List Operand) (vs : List Val) → Holds sizes l e g t s env c → HasValue words sizes l g t s c f v → HaveValues words sizes l g t s c args (map Lasting vs) → length args ≤ 20 → slice_get words.blocks.items target ≡ Some block → block.params ≡ call_params u → Performs words sizes (Calls sizes l e g u s v vs target) 1 (9 + 3 * length args) (call_code target f args) c
+  whole_call u env c target block f v args vs h hf hs few there params =
       let rest = drop_count 5 args in
-      performs_more words sizes (Calls sizes l e g t s v vs target) (9 + 3 * length args) (omega (arith, rest))
-      (stores_perform words sizes l e g t s (Calls sizes l e g t s v vs target) (drop 5 args) (drop 5 vs) 0 env c 9 (Close (last.Enter (operand.Code target) (word (length args) ∷ f ∷ take 5 args))) h (rest_values c 5 args vs hs) (omega (arith, rest, few))
+      performs_more words sizes (Calls sizes l e g u s v vs target) (9 + 3 * length args) (omega (arith, rest))
+      (stores_perform words sizes l e g t s (Calls sizes l e g u s v vs target) (drop 5 args) (drop 5 vs) 0 env c 9 (Close (last.Enter (operand.Code target) (word (length args) ∷ f ∷ take 5 args))) h (rest_values c 5 args vs hs) (omega (arith, rest, few))
       (λ ws stamps held found before.
       let hf' = values_held words sizes l e g t s c ws stamps (f ∷ []) (v ∷ []) (hf, tt) in
-      enter_call env (with_statics_of c ws stamps) target block f v args vs held hf'.0 (values_held words sizes l e g t s c ws stamps args (map Lasting vs) hs) few there params
+      enter_call u env (with_statics_of c ws stamps) target block f v args vs held hf'.0 (values_held words sizes l e g t s c ws stamps args (map Lasting vs) hs) few there params
       (λ i y at le.
       let m : 5 + (i - 5) ≡ i = omega (arith, le) in
       let inside : i < length vs = Rattle.std.proofs.lemmas.Option.slice_get_within vs i y at in
@@ -139,5 +142,5 @@ module _ (words : Words) (sizes : Sizes) (l : Layout) (e : Escapes) (g : Ways) (
       let z : OPERANDS + (i - 5) ≡ OPERANDS + (0 + (i - 5)) = omega arith in
       front_read (record c.storage { statics = ws }) (OPERANDS + (i - 5)) low ∙ (ap (slice_get ws) z ∙ found (i - 5) y place))))
 
-pub call_performs : (words : Words) (sizes : Sizes) (l : Layout) (e : Escapes) (g : Ways) (t : ℕ) (s : State) (env : Env) (c : Core) (target : ℕ) (block : WordBlock) (f : Operand) (v : Value) (args : List Operand) (vs : List Val) → Holds sizes l e g t s env c → HasValue words sizes l g t s c f v → HaveValues words sizes l g t s c args (map Lasting vs) → length args ≤ 20 → slice_get words.blocks.items target ≡ Some block → block.params ≡ call_params t → Performs words sizes (Calls sizes l e g t s v vs target) 1 (9 + 3 * length args) (call_code target f args) c
-call_performs words sizes l e g t s env c target block f v args vs h hf hs few there params = whole_call words sizes l e g t s env c target block f v args vs h hf hs few there params
+pub call_performs : (words : Words) (sizes : Sizes) (l : Layout) (e : Escapes) (g : Ways) (t u : ℕ) (s : State) (env : Env) (c : Core) (target : ℕ) (block : WordBlock) (f : Operand) (v : Value) (args : List Operand) (vs : List Val) → Holds sizes l e g t s env c → HasValue words sizes l g t s c f v → HaveValues words sizes l g t s c args (map Lasting vs) → length args ≤ 20 → slice_get words.blocks.items target ≡ Some block → block.params ≡ call_params u → Performs words sizes (Calls sizes l e g u s v vs target) 1 (9 + 3 * length args) (call_code target f args) c
+call_performs words sizes l e g t u s env c target block f v args vs h hf hs few there params = whole_call words sizes l e g t s u env c target block f v args vs h hf hs few there params

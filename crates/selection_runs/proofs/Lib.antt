@@ -1,0 +1,16 @@
+pub mod Blocks
+pub mod Marks
+pub mod Begun
+pub mod Counted
+pub mod Ends
+pub mod Calling
+pub mod Entered
+pub mod Called
+pub mod Builtins
+pub mod Escaping
+pub mod Leads
+pub mod Matching
+pub mod Starting
+pub mod ProperEnds
+pub mod Keeping
+pub mod Operations

@@ -1,0 +1,16 @@
+pub mod Leading
+pub mod Ending
+pub mod Caught
+pub mod Youngest
+pub mod Slots
+pub mod Captured
+pub mod Cells
+pub mod Globals
+pub mod Costs
+pub mod Keeping
+pub mod Things
+pub mod Prims
+pub mod Pushes
+pub mod Groups
+pub mod Closures
+pub mod Catches

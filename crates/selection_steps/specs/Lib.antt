@@ -1,0 +1,3 @@
+pub mod Settings
+pub mod Related
+pub mod Led
