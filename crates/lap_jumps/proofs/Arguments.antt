@@ -35,7 +35,9 @@ use Rattle.lap_jumps.specs.Carries.{numbered, word_numbered, IsOne, is_place, Ca
 use Rattle.lap_jumps.specs.Arguments.{AreDistinct, ComesFrom, Given}
 use Rattle.lap_jumps.proofs.Places.{word_back}
 use Rattle.lap_jumps.proofs.Holding.{held_same, held_other, room_there, hold_in_place, keeps_all, keeps_trans, hold_keeps}
-use Rattle.lap_jumps.proofs.Carrying.{near_one, back, small, steps_after, moves_go}
+use Rattle.lap_jumps.proofs.Carrying.{data_stays, is_home, near_one, back, small, steps_after, moves_go}
+use Rattle.lap_jumps.proofs.Singles.{then_goes, both_hold}
+use Rattle.lap_paths.proofs.Steps.{arrived}
 
 -- ---- what places hold
 
@@ -234,52 +236,60 @@ module _ (a : Assembly) (m : Setting) (homes : List Home) (housed : IsHoused m) 
 
   -- one word goes to its place
   fill_one : (n : ℕ) (x : WordState) (u : State) (o : Operand) (w : Word) (to : Home) (items : List Item) (Q : State → Type 0) → Represents m a.labels x u → IsInPlace m x → AllHave x → IsUsable m o → word_of m x o ≡ Some w → IsOne homes to
-      → Stands a u ((source_items o ++ put_into (source_of m.homes o) to ∷ []) ++ items) → ((v : State) → Represents m a.labels (hold x (At to) w) v → Stands a v items → Path a n v Q) → Path a (suc (suc (suc n))) u Q
+      → Stands a u ((source_items o ++ put_into (source_of m.homes o) to ∷ []) ++ items) → ((v : State) → Represents m a.labels (hold x (At to) w) v → data_at v.registers 6 ≡ data_at u.registers 6 → Stands a v items → Path a n v Q) → Path a (suc (suc (suc n))) u Q
   fill_one n x u o w to items Q is place all usable word one stands rest =
       let k = lodged to one in
       let old = all to one in
       source_goes a m housed n x u o w (put_into (source_of m.homes o) to ∷ items) Q place is usable word (subst (Stands a u) (append_assoc (source_items o) (put_into (source_of m.homes o) to ∷ []) items) stands)
-      (λ v beside reads stands2. put_goes a m n x v (source_of m.homes o) k.0 to w items Q housed place (beside_represents m a.labels 8 x u v housed (omega arith) is beside)
-      (operand_known a m x housed place u o w is usable word) k.1 (room_there m x to old.0 place old.1) stands2 reads rest)
+      (λ v beside reads stands2.
+      let is2 = beside_represents m a.labels 8 x u v housed (omega arith) is beside in
+      let known = operand_known a m x housed place u o w is usable word in
+      let room = room_there m x to old.0 place old.1 in
+      let P : State → Type 0 = λ y. Represents m a.labels (hold x (At to) w) y × Stands a y items in
+      let Kept6 : State → Type 0 = λ y. data_at y.registers 6 ≡ data_at v.registers 6 in
+      then_goes a v n (λ y. P y × Kept6 y) Q
+      (both_hold a v P Kept6 (put_goes a m 0 x v (source_of m.homes o) k.0 to w items P housed place is2 known k.1 room stands2 reads (λ y is3 stands3. arrived a y P (is3, stands3)))
+      (data_stays a m x v (source_of m.homes o) w items housed place is2 known reads 6 (omega arith) (omega arith) to (is_home a m homes housed lodged to one) room stands2))
+      (λ y both. rest y both.0.0 (both.1 ∙ beside.numbers 6 (omega arith) (λ e. absurd (omega (arith, e)))) both.0.1))
 
   module _ (n : ℕ) (items : List Item) (Q : State → Type 0) where
-    Rest : WordState → List Operand → List Home → Type 0
-    Rest x args places = (y : WordState) (v : State) → Represents m a.labels y v → IsInPlace m y → KeepsOthers homes x y → Filled x y args places → Stands a v items → Path a n v Q
+    Rest : WordState → State → List Operand → List Home → Type 0
+    Rest x u args places = (y : WordState) (v : State) → Represents m a.labels y v → IsInPlace m y → KeepsOthers homes x y → Filled x y args places → data_at v.registers 6 ≡ data_at u.registers 6 → Stands a v items → Path a n v Q
 
     fills_go : (x : WordState) (u : State) (args : List Operand) (places : List Home) → Represents m a.labels x u → IsInPlace m x → AllHave x → ((k : ℕ) (o : Operand) → slice_get args k ≡ Some o → IsUsable m o) → Ones places → AreDistinct places
-        → Stands a u (fill_items m.homes args places ++ items) → Rest x args places → Path a (fill_steps args places n) u Q
+        → Stands a u (fill_items m.homes args places ++ items) → Rest x u args places → Path a (fill_steps args places n) u Q
     unfolding filling fill_steps Rest IsNoVariable
     fills_go x u [] places is place all usable ones distinct stands rest =
-        rest x u is place (keeps_all homes x) (record { other = λ h one out. refl; variable = λ k v to e g. absurd (cc); word = λ k o to w none e g there. absurd (cc) }) stands
+        rest x u is place (keeps_all homes x) (record { other = λ h one out. refl; variable = λ k v to e g. absurd (cc); word = λ k o to w none e g there. absurd (cc) }) refl stands
     fills_go x u (o ∷ args) [] is place all usable ones distinct stands rest =
-        rest x u is place (keeps_all homes x) (record { other = λ h one out. refl; variable = λ k v to e g. absurd (cc); word = λ k o to w none e g there. absurd (cc) }) stands
+        rest x u is place (keeps_all homes x) (record { other = λ h one out. refl; variable = λ k v to e g. absurd (cc); word = λ k o to w none e g there. absurd (cc) }) refl stands
     fills_go x u (operand.Var v ∷ args) (p ∷ places) is place all usable ones distinct stands rest =
         fills_go x u args places is place all (λ k. usable (suc k)) (λ k. ones (suc k)) (rest_distinct p places distinct) stands
-        (λ y z is2 place2 keeps f stands2. rest y z is2 place2 keeps (past_variable x y v p args places ones distinct f) stands2)
+        (λ y z is2 place2 keeps f six stands2. rest y z is2 place2 keeps (past_variable x y v p args places ones distinct f) six stands2)
     fills_go x u (operand.Word k ∷ args) (p ∷ places) is place all usable ones distinct stands rest =
         let w : Word = Number k in
         let old = all p (ones 0 p refl) in
         fill_one (fill_steps args places n) x u (operand.Word k) w p (fill_items m.homes args places ++ items) Q is place all (usable 0 (operand.Word k) refl) refl (ones 0 p refl) stands
-        (λ v is2 stands2. fills_go (hold x (At p) w) v args places is2 (hold_in_place m x p w place) (still_have x p w (ones 0 p refl) all) (λ k. usable (suc k)) (λ k. ones (suc k)) (rest_distinct p places distinct) stands2
-        (λ y z is3 place3 keeps f stands3. rest y z is3 place3 (keeps_trans homes x (hold x (At p) w) y (hold_keeps homes x p w old.0 (ones 0 p refl) old.1) keeps) (past_word x y (operand.Word k) w old.0 p args places tt refl old.1 ones distinct f) stands3))
+        (λ v is2 six stands2. fills_go (hold x (At p) w) v args places is2 (hold_in_place m x p w place) (still_have x p w (ones 0 p refl) all) (λ k. usable (suc k)) (λ k. ones (suc k)) (rest_distinct p places distinct) stands2
+        (λ y z is3 place3 keeps f six2 stands3. rest y z is3 place3 (keeps_trans homes x (hold x (At p) w) y (hold_keeps homes x p w old.0 (ones 0 p refl) old.1) keeps) (past_word x y (operand.Word k) w old.0 p args places tt refl old.1 ones distinct f) (six2 ∙ six) stands3))
     fills_go x u (operand.Static k ∷ args) (p ∷ places) is place all usable ones distinct stands rest =
         let w : Word = Number (static_at k) in
         let old = all p (ones 0 p refl) in
         fill_one (fill_steps args places n) x u (operand.Static k) w p (fill_items m.homes args places ++ items) Q is place all (usable 0 (operand.Static k) refl) refl (ones 0 p refl) stands
-        (λ v is2 stands2. fills_go (hold x (At p) w) v args places is2 (hold_in_place m x p w place) (still_have x p w (ones 0 p refl) all) (λ k. usable (suc k)) (λ k. ones (suc k)) (rest_distinct p places distinct) stands2
-        (λ y z is3 place3 keeps f stands3. rest y z is3 place3 (keeps_trans homes x (hold x (At p) w) y (hold_keeps homes x p w old.0 (ones 0 p refl) old.1) keeps) (past_word x y (operand.Static k) w old.0 p args places tt refl old.1 ones distinct f) stands3))
+        (λ v is2 six stands2. fills_go (hold x (At p) w) v args places is2 (hold_in_place m x p w place) (still_have x p w (ones 0 p refl) all) (λ k. usable (suc k)) (λ k. ones (suc k)) (rest_distinct p places distinct) stands2
+        (λ y z is3 place3 keeps f six2 stands3. rest y z is3 place3 (keeps_trans homes x (hold x (At p) w) y (hold_keeps homes x p w old.0 (ones 0 p refl) old.1) keeps) (past_word x y (operand.Static k) w old.0 p args places tt refl old.1 ones distinct f) (six2 ∙ six) stands3))
     fills_go x u (operand.Code k ∷ args) (p ∷ places) is place all usable ones distinct stands rest =
         let w : Word = Code k in
         let old = all p (ones 0 p refl) in
         fill_one (fill_steps args places n) x u (operand.Code k) w p (fill_items m.homes args places ++ items) Q is place all (usable 0 (operand.Code k) refl) refl (ones 0 p refl) stands
-        (λ v is2 stands2. fills_go (hold x (At p) w) v args places is2 (hold_in_place m x p w place) (still_have x p w (ones 0 p refl) all) (λ k. usable (suc k)) (λ k. ones (suc k)) (rest_distinct p places distinct) stands2
-        (λ y z is3 place3 keeps f stands3. rest y z is3 place3 (keeps_trans homes x (hold x (At p) w) y (hold_keeps homes x p w old.0 (ones 0 p refl) old.1) keeps) (past_word x y (operand.Code k) w old.0 p args places tt refl old.1 ones distinct f) stands3))
+        (λ v is2 six stands2. fills_go (hold x (At p) w) v args places is2 (hold_in_place m x p w place) (still_have x p w (ones 0 p refl) all) (λ k. usable (suc k)) (λ k. ones (suc k)) (rest_distinct p places distinct) stands2
+        (λ y z is3 place3 keeps f six2 stands3. rest y z is3 place3 (keeps_trans homes x (hold x (At p) w) y (hold_keeps homes x p w old.0 (ones 0 p refl) old.1) keeps) (past_word x y (operand.Code k) w old.0 p args places tt refl old.1 ones distinct f) (six2 ∙ six) stands3))
     fills_go x u (operand.Slot k ∷ args) (p ∷ places) is place all usable ones distinct stands rest =
         let w : Word = Number (wrap (x.top + k)) in
         let old = all p (ones 0 p refl) in
         fill_one (fill_steps args places n) x u (operand.Slot k) w p (fill_items m.homes args places ++ items) Q is place all (usable 0 (operand.Slot k) refl) refl (ones 0 p refl) (subst (Stands a u) (append_assoc (filling m.homes (operand.Slot k) p) (fill_items m.homes args places) items) stands)
-        (λ v is2 stands2. fills_go (hold x (At p) w) v args places is2 (hold_in_place m x p w place) (still_have x p w (ones 0 p refl) all) (λ k. usable (suc k)) (λ k. ones (suc k)) (rest_distinct p places distinct) stands2
-        (λ y z is3 place3 keeps f stands3. rest y z is3 place3 (keeps_trans homes x (hold x (At p) w) y (hold_keeps homes x p w old.0 (ones 0 p refl) old.1) keeps) (past_word x y (operand.Slot k) w old.0 p args places tt refl old.1 ones distinct f) stands3))
+        (λ v is2 six stands2. fills_go (hold x (At p) w) v args places is2 (hold_in_place m x p w place) (still_have x p w (ones 0 p refl) all) (λ k. usable (suc k)) (λ k. ones (suc k)) (rest_distinct p places distinct) stands2
+        (λ y z is3 place3 keeps f six2 stands3. rest y z is3 place3 (keeps_trans homes x (hold x (At p) w) y (hold_keeps homes x p w old.0 (ones 0 p refl) old.1) keeps) (past_word x y (operand.Slot k) w old.0 p args places tt refl old.1 ones distinct f) (six2 ∙ six) stands3))
 
   -- ---- all arguments
 
@@ -323,10 +333,10 @@ module _ (a : Assembly) (m : Setting) (homes : List Home) (housed : IsHoused m) 
         gets_word k (operand.Slot n) to w e g there = f.word k (operand.Slot n) to w tt e g (same_word s x (operand.Slot n) tt keeps.top ∙ there)
 
     pub arguments_go : (n : ℕ) (items : List Item) (Q : State → Type 0) → Stands a t (moved_items done ++ (fill_items m.homes args places ++ items))
-        → ((y : WordState) (v : State) → Given a m homes s args places y v → Stands a v items → Path a n v Q) → Path a (steps_after a m homes housed lodged done (fill_steps args places n)) t Q
+        → ((y : WordState) (v : State) → Given a m homes s args places y v → data_at v.registers 6 ≡ data_at t.registers 6 → Stands a v items → Path a n v Q) → Path a (steps_after a m homes housed lodged done (fill_steps args places n)) t Q
     unfolding Rest holds
     arguments_go n items Q stands rest =
         moves_go a m homes housed lodged (fill_steps args places n) s t holds done (fill_items m.homes args places ++ items) Q (starts s t is place (stands.range.registers.d 7) all)
         (does.places (is_place homes) refl (moves_pass args places from ones)) stands
-        (λ x u c keeps stands2. fills_go n items Q x u args places c.is c.place (λ h one. (word_numbered (after done holds (number_of_home h)), c.each h one)) usable ones distinct stands2
-        (λ y v is2 place2 more f stands3. rest y v (given x y u v c keeps is2 place2 more f) stands3))
+        (λ x u c keeps six stands2. fills_go n items Q x u args places c.is c.place (λ h one. (word_numbered (after done holds (number_of_home h)), c.each h one)) usable ones distinct stands2
+        (λ y v is2 place2 more f six2 stands3. rest y v (given x y u v c keeps is2 place2 more f) (six2 ∙ six) stands3))

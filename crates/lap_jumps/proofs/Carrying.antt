@@ -1,5 +1,5 @@
 -- Moves between homes, one after another.
-use Rattle.std.proofs.Common.{◌≡◌, ℕ, suc, ◌+◌, ◌<◌, ◌==◌, Bool, true, false, List, [], ◌∷◌, ◌++◌, Some, length, refl, ap, sym, subst, ◌∙◌, arith}
+use Rattle.std.proofs.Common.{◌≡◌, ℕ, suc, ◌+◌, ◌<◌, ◌≤◌, ◌==◌, Bool, true, false, List, [], ◌∷◌, ◌++◌, Some, length, refl, ap, sym, subst, ◌∙◌, arith}
 use Rattle.std.specs.Prelude.{if◌then◌else◌}
 use Rattle.std.proofs.lemmas.Bool.{ne_eqb, eqb-true, eqb-false}
 use Rattle.std.proofs.lemmas.List.{get_or-set_other}
@@ -38,28 +38,28 @@ use Rattle.lap_jumps.proofs.Singles.{then_goes, both_hold}
 use Rattle.lap_jumps.proofs.Places.{near, home_back, Place, Between, Lies, place_told}
 use Rattle.lap_jumps.proofs.Holding.{held_same, held_other, room_there, hold_in_place, keeps_all, keeps_trans, hold_keeps}
 
--- ---- D7 stays where a word goes into a home
+-- ---- D6 and D7 stay where a word goes into a home
 
 module _ (a : Assembly) (m : Setting) (s : WordState) (t : State) (from : Ea) (w : Word) (items : List Item) (housed : IsHoused m) (place : IsInPlace m s) (is : Represents m a.labels s t) (known : IsKnown m w) (reads : Reads t from (real a.labels w)) where
-  between_stays : (h : Home) → IsHome m.words h → has_room s (At h) ≡ true → Stands a t (put_into from h ∷ items) → Path a 1 t (λ u. data_at u.registers 7 ≡ data_at t.registers 7)
-  between_stays (home.D i) near room stands =
-      move_goes a m housed 0 t from i (real a.labels w) items (λ u. data_at u.registers 7 ≡ data_at t.registers 7) (omega (arith, near)) stands reads
-      (λ u beside there stands2. arrived a u (λ u. data_at u.registers 7 ≡ data_at t.registers 7) (beside.numbers 7 (omega arith) (λ e. absurd (omega (arith, e, near)))))
-  between_stays (home.A i) near room stands =
-      act a 0 t (Plain (MoveaL from i)) (MoveaL from i) items (λ pc. with_address (with_pc t.registers pc) i (real a.labels w)) Nothing (λ u. data_at u.registers 7 ≡ data_at t.registers 7) stands
+  pub data_stays : (j : ℕ) → 6 ≤ j → j < 8 → (h : Home) → IsHome m.words h → has_room s (At h) ≡ true → Stands a t (put_into from h ∷ items) → Path a 1 t (λ u. data_at u.registers j ≡ data_at t.registers j)
+  data_stays j low high (home.D i) near room stands =
+      move_goes a m housed 0 t from i (real a.labels w) items (λ u. data_at u.registers j ≡ data_at t.registers j) (omega (arith, near)) stands reads
+      (λ u beside there stands2. arrived a u (λ u. data_at u.registers j ≡ data_at t.registers j) (beside.numbers j high (λ e. absurd (omega (arith, e, near, low)))))
+  data_stays j low high (home.A i) near room stands =
+      act a 0 t (Plain (MoveaL from i)) (MoveaL from i) items (λ pc. with_address (with_pc t.registers pc) i (real a.labels w)) Nothing (λ u. data_at u.registers j ≡ data_at t.registers j) stands
       (λ width at. refl) (λ at pc. does_move_address t from i (real a.labels w) at pc reads) refl (λ pc. refl)
       (λ pc. let same = get_or-set_other t.registers.a i 4 (real a.labels w) 0 (λ e. absurd (omega (arith, e, near))) in omega (arith, same))
-      (λ pc stands2. arrived a _ (λ u. data_at u.registers 7 ≡ data_at t.registers 7) refl)
-  between_stays (home.Stack n) near room stands =
+      (λ pc stands2. arrived a _ (λ u. data_at u.registers j ≡ data_at t.registers j) refl)
+  data_stays j low high (home.Stack n) near room stands =
       let old = stack_word m s n housed place room in
-      write_goes a 0 t from (at_home (home.Stack n)) (real a.labels w) (stack_at s n) items (λ u. data_at u.registers 7 ≡ data_at t.registers 7) stands reads (stack_places m s t n housed place is.top near)
+      write_goes a 0 t from (at_home (home.Stack n)) (real a.labels w) (stack_at s n) items (λ u. data_at u.registers j ≡ data_at t.registers j) stands reads (stack_places m s t n housed place is.top near)
       (can m a.labels s t (stack_at s n) w old.0 housed place is known (real_small a m w known) old.1 0 t.registers.flags)
-      (λ pc f stands2. arrived a _ (λ u. data_at u.registers 7 ≡ data_at t.registers 7) refl)
-  between_stays (home.Static p) near room stands =
+      (λ pc f stands2. arrived a _ (λ u. data_at u.registers j ≡ data_at t.registers j) refl)
+  data_stays j low high (home.Static p) near room stands =
       let there = is.statics p near in
-      write_goes a 0 t from (Abs (static_at p)) (real a.labels w) (static_at p) items (λ u. data_at u.registers 7 ≡ data_at t.registers 7) stands reads (absolute_places t (static_at p))
+      write_goes a 0 t from (Abs (static_at p)) (real a.labels w) (static_at p) items (λ u. data_at u.registers j ≡ data_at t.registers j) stands reads (absolute_places t (static_at p))
       (there_writes t.storage (static_at p) there.0 (omega (arith, near, housed.few)) there.1)
-      (λ pc f stands2. arrived a _ (λ u. data_at u.registers 7 ≡ data_at t.registers 7) refl)
+      (λ pc f stands2. arrived a _ (λ u. data_at u.registers j ≡ data_at t.registers j) refl)
 
 -- ---- one move
 
@@ -118,23 +118,26 @@ module _ (a : Assembly) (m : Setting) (homes : List Home) (housed : IsHoused m) 
             held_other s h k (word_numbered v) (word_numbered (holds (number_of_home h))) (c.each h one) (λ eq. eqb-false (number_of_home k) (number_of_home h) e (ap number_of_home (sym eq))) ∙ c.each k is_one
 
     put_carries : (n : ℕ) (from : Ea) (v p : ℕ) (items : List Item) (Q : State → Type 0) → Place homes p → Reads t from (real a.labels (word_numbered v)) → IsKnown m (word_numbered v) → Stands a t (put_into from (home_at p) ∷ items)
-        → ((x : WordState) (u : State) → Carries a m homes x u (put holds p v) → KeepsOthers homes s x → Stands a u items → Path a n u Q) → Path a (suc n) t Q
+        → ((x : WordState) (u : State) → Carries a m homes x u (put holds p v) → KeepsOthers homes s x → data_at u.registers 6 ≡ data_at t.registers 6 → Stands a u items → Path a n u Q) → Path a (suc n) t Q
     put_carries n from v p items Q (Between e) reads known stands rest =
         move_goes a m housed n t from 7 (real a.labels (word_numbered v)) items Q (omega arith) (subst (λ q. Stands a t (put_into from (home_at q) ∷ items)) e stands) reads
         (λ u beside there stands2. rest s u
-        (subst (λ q. Carries a m homes s u (put holds q v)) (sym e) (to_between u v (beside_represents m a.labels 7 s t u housed (omega arith) c.is beside) there known)) (keeps_all homes s) stands2)
+        (subst (λ q. Carries a m homes s u (put holds q v)) (sym e) (to_between u v (beside_represents m a.labels 7 s t u housed (omega arith) c.is beside) there known)) (keeps_all homes s) (beside.numbers 6 (omega arith) (λ e. absurd (omega (arith, e)))) stands2)
     put_carries n from v p items Q (Lies h one same) reads known stands rest =
         let k = lodged h one in
         let w : Word = word_numbered v in
         let there : Stands a t (put_into from h ∷ items) = subst (λ x. Stands a t (put_into from x ∷ items)) (back h p one same) stands in
         let room = room_there m s h (word_numbered (holds (number_of_home h))) c.place (c.each h one) in
         let P : State → Type 0 = λ u. Represents m a.labels (hold s (At h) w) u × Stands a u items in
-        then_goes a t n (λ u. P u × (data_at u.registers 7 ≡ data_at t.registers 7)) Q
-        (both_hold a t P (λ u. data_at u.registers 7 ≡ data_at t.registers 7)
+        let Between7 : State → Type 0 = λ u. data_at u.registers 7 ≡ data_at t.registers 7 in
+        let Kept6 : State → Type 0 = λ u. data_at u.registers 6 ≡ data_at t.registers 6 in
+        then_goes a t n (λ u. P u × (Between7 u × Kept6 u)) Q
+        (both_hold a t P (λ u. Between7 u × Kept6 u)
         (put_goes a m 0 s t from k.0 h w items P housed c.place c.is known k.1 room there reads (λ u is stands2. arrived a u P (is, stands2)))
-        (between_stays a m s t from w items housed c.place c.is known reads h (is_home h one) room there))
-        (λ u x. rest (hold s (At h) w) u (subst (λ q. Carries a m homes (hold s (At h) w) u (put holds q v)) same (to_home u h v one x.0.0 x.1))
-        (hold_keeps homes s h w (word_numbered (holds (number_of_home h))) one (c.each h one)) x.0.1)
+        (both_hold a t Between7 Kept6 (data_stays a m s t from w items housed c.place c.is known reads 7 (omega arith) (omega arith) h (is_home h one) room there)
+        (data_stays a m s t from w items housed c.place c.is known reads 6 (omega arith) (omega arith) h (is_home h one) room there)))
+        (λ u x. rest (hold s (At h) w) u (subst (λ q. Carries a m homes (hold s (At h) w) u (put holds q v)) same (to_home u h v one x.0.0 x.1.0))
+        (hold_keeps homes s h w (word_numbered (holds (number_of_home h))) one (c.each h one)) x.1.1 x.0.1)
 
   -- ---- one after another
 
@@ -143,14 +146,14 @@ module _ (a : Assembly) (m : Setting) (homes : List Home) (housed : IsHoused m) 
   steps_after (x ∷ done) n = suc (steps_after done n)
 
   pub moves_go : (n : ℕ) (s : WordState) (t : State) (holds : ℕ → ℕ) (done : List OneMove) (items : List Item) (Q : State → Type 0) → Carries a m homes s t holds → StepsPass (is_place homes) done → Stands a t (moved_items done ++ items)
-      → ((x : WordState) (u : State) → Carries a m homes x u (after done holds) → KeepsOthers homes s x → Stands a u items → Path a n u Q) → Path a (steps_after done n) t Q
+      → ((x : WordState) (u : State) → Carries a m homes x u (after done holds) → KeepsOthers homes s x → data_at u.registers 6 ≡ data_at t.registers 6 → Stands a u items → Path a n u Q) → Path a (steps_after done n) t Q
   unfolding steps_after
-  moves_go n s t holds [] items Q c pass stands rest = rest s t c (keeps_all homes s) stands
+  moves_go n s t holds [] items Q c pass stands rest = rest s t c (keeps_all homes s) refl stands
   moves_go n s t holds (x ∷ done) items Q c pass stands rest =
       let from = source s t holds c x.from (place_told homes x.from pass.0) in
       put_carries s t holds c (steps_after done n) (at_home (home_at x.from)) (holds x.from) x.to (moved_items done ++ items) Q (place_told homes x.to pass.1) from.0 from.1 stands
-      (λ y u c2 keeps stands2. moves_go n y u (put holds x.to (holds x.from)) done items Q c2 pass.2 stands2
-      (λ z v c3 more stands3. rest z v c3 (keeps_trans homes s y z keeps more) stands3))
+      (λ y u c2 keeps six stands2. moves_go n y u (put holds x.to (holds x.from)) done items Q c2 pass.2 stands2
+      (λ z v c3 more six2 stands3. rest z v c3 (keeps_trans homes s y z keeps more) (six2 ∙ six) stands3))
 
   pub steps_many : (done : List OneMove) (n : ℕ) → steps_after done n ≡ length done + n
   unfolding steps_after
@@ -163,4 +166,4 @@ moves_carry a m homes s t holds done items housed lodged c pass stands =
     let Q : State → Type 0 = Carried a m homes s (after done holds) items in
     subst (λ n. Path a n t Q) same
     (moves_go a m homes housed lodged 0 s t holds done items Q c pass stands
-    (λ x u carries keeps stands2. arrived a u Q (record { words = x; carries = carries; others = keeps; stands = stands2 })))
+    (λ x u carries keeps six stands2. arrived a u Q (record { words = x; carries = carries; others = keeps; stands = stands2 })))

@@ -149,7 +149,7 @@ module _ (a : Assembly) (m : Setting) (s : WordState) (t : State) (items : List 
       let r = rooms.told b.0 (At (home.Stack n)) b.1 b.2 in
       subst (λ k. has_room s k ≡ true) (sym r.1) r.3)))
       can.distinct does 1 (Branch Bra block ∷ items) Q stands
-      (λ y v g stands2.
+      (λ y v g six stands2.
       branch a 0 v Bra block items Q stands2
       (λ h pc at. arrived a (at_pc v pc) Q (ends c.env c.keeps y v g (at_pc v pc) (beside_represents m a.labels 8 y v (at_pc v pc) housed (omega arith) g.is (beside_pc v pc 8)), at))
       (λ h pc stands3. absurd (cc)))
@@ -193,7 +193,7 @@ module _ (a : Assembly) (m : Setting) (s : WordState) (t : State) (items : List 
 -- ---- how many
 
 module _ (a : Assembly) (m : Setting) (homes : List Home) (housed : IsHoused m) (lodged : (h : Home) → IsOne homes h → IsOne m.homes h) where
-  few_steps : (args : List Operand) (places : List Home) (n : ℕ) → fill_steps a m homes housed lodged args places n + 3 * length (moves_to m.homes args places) ≤ n + 3 * length args
+  pub few_steps : (args : List Operand) (places : List Home) (n : ℕ) → fill_steps a m homes housed lodged args places n + 3 * length (moves_to m.homes args places) ≤ n + 3 * length args
   unfolding fill_steps moving
   few_steps [] places n = omega arith
   few_steps (x ∷ args) [] n = omega arith
@@ -203,7 +203,7 @@ module _ (a : Assembly) (m : Setting) (homes : List Home) (housed : IsHoused m) 
   few_steps (operand.Code k ∷ args) (p ∷ places) n = omega (arith, few_steps args places n)
   few_steps (operand.Slot k ∷ args) (p ∷ places) n = omega (arith, few_steps args places n)
 
-  some_steps : (args : List Operand) (places : List Home) (n : ℕ) → n ≤ fill_steps a m homes housed lodged args places n
+  pub some_steps : (args : List Operand) (places : List Home) (n : ℕ) → n ≤ fill_steps a m homes housed lodged args places n
   unfolding fill_steps
   some_steps [] places n = omega arith
   some_steps (x ∷ args) [] n = omega arith

@@ -1,0 +1,4 @@
+pub mod Conventions
+pub mod Chosen
+pub mod Handing
+pub mod Ends

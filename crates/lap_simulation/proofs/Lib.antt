@@ -1,0 +1,4 @@
+pub mod Turning
+pub mod Blocks
+pub mod Stepping
+pub mod Keeping
