@@ -1,7 +1,7 @@
 -- The closures of a Labels.
 use Rattle.std.proofs.Common.{◌≡◌, ℕ, zero, suc, ◌+◌, ◌<◌, ◌||◌, nat_lt, false, List, [], ◌∷◌, ◌++◌, length, take, get_or, refl, sym, ap, subst, ◌∙◌, arith, append_assoc}
 use Rattle.std.specs.List.{AllByRecursion}
-use Rattle.std.proofs.lemmas.List.{append-nil, take_all, length-take-le}
+use Rattle.std.proofs.lemmas.List.{append-nil, map-append, take_all, length-take-le}
 use Rattle.t_base.specs.declared.basics.Var.{Var}
 use Rattle.cps_ir.specs.declared.terms.Cps.{Cps}
 use Rattle.cps_ir.specs.declared.terms.Term.TheVariants as Node
@@ -24,6 +24,9 @@ use Rattle.layout_tables.proofs.Basics.{take_more}
 use Rattle.layout_tables.proofs.Growing.{later, grows_none, grows_same, grows_more, below_more}
 use Rattle.layout_steps.proofs.Preparing.{unused_above, more_differs, made_by_join, is_in_join}
 use Rattle.closure_layout.proofs.Walking.{pairs_below}
+use Rattle.frame_ir.specs.Parts.{arms_of}
+use Rattle.layout_tables.specs.Additions.{Adds, Rises, bound_by}
+use Rattle.layout_tables.proofs.Adding.{adds_none, adds_more, adds_behind, adds_bound, rises_counted, bound_by_join}
 
 head_same : (a b : ℕ) (as_ bs : List ℕ) → a ∷ as_ ≡ b ∷ bs → a ≡ b
 head_same a b as_ bs h = cc
@@ -55,6 +58,8 @@ pub record MakesSoFar (w : Tables) (vars : Scoped) (old new : Work) (before afte
   pub ops : after ≡ before ++ made
   pub grows : Grows w old new
   pub next : new.next ≡ old.next
+  pub adds : Adds old new [] []
+  pub binds : length tos ≡ length lams → bound_by made ≡ numbers (take place tos)
   pub below : (n : ℕ) → numbers tos ≡ counted n (length lams) → AllByRecursion (λ y. y < n + place) (made_by made)
   pub labels : (cps : Cps) (n : ℕ) → KnowsFirst cps w → numbers tos ≡ counted n (length lams) → Ever w new (λ v. (xs : List Var) → length xs ≡ place → Labels cps v vars xs (take place lams) made (take place tos))
 
@@ -63,7 +68,7 @@ no_labels cps v vars [] e = labels_none
 no_labels cps v vars (x ∷ xs) e = absurd (omega (arith, e))
 
 pub makes_none : (w : Tables) (vars : Scoped) (old : Work) (before : List FrameOp) (lams : List ℕ) (tos : List Var) → MakesSoFar w vars old old before before lams tos 0
-makes_none w vars old before lams tos = record { made = []; ops = sym (append-nil before); grows = grows_none w old; next = refl; below = λ n e. tt; labels = λ cps n k e ps ts f g xs len. no_labels cps (sketch_of w ps ts) vars xs len }
+makes_none w vars old before lams tos = record { made = []; ops = sym (append-nil before); grows = grows_none w old; next = refl; adds = adds_none old; binds = λ len. refl; below = λ n e. tt; labels = λ cps n k e ps ts f g xs len. no_labels cps (sketch_of w ps ts) vars xs len }
 
 pub makes_more : (w : Tables) (vars : Scoped) (old mid new : Work) (before after behind : List FrameOp) (lams : List ℕ) (tos : List Var) (place dl : ℕ) (d : Var) (op : FrameOp) → MakesSoFar w vars old mid before after lams tos place → place < length lams → length tos ≡ length lams
     → MakesNew w vars mid new (get_or lams place dl) (get_or tos place d) op → behind ≡ after ++ op ∷ [] → MakesSoFar w vars old new before behind lams tos (place + 1)
@@ -76,6 +81,8 @@ makes_more w vars old mid new before after behind lams tos place dl d op s lt le
       ops = pushed ∙ ap (λ zs. zs ++ op ∷ []) s.ops ∙ append_assoc before s.made (op ∷ []) ∙ ap (λ o. before ++ (s.made ++ o ∷ [])) m.is;
       grows = grows_more w old mid new s.grows m.grows;
       next = m.next ∙ s.next;
+      adds = adds_more old mid new [] [] [] [] s.adds m.adds;
+      binds = λ same. bound_by_join s.made (Op.Closure to m.code m.kept At.Heap ∷ []) ∙ ap (λ zs. zs ++ to.0 ∷ []) (s.binds same) ∙ sym (map-append (λ x. x.0) (take place tos) (to ∷ [])) ∙ ap numbers (sym (take_more tos place d there));
       below = λ n e. let at = counted_at tos n (length lams) place d e there in
           subst (AllByRecursion (λ y. y < n + (place + 1))) (sym (made_by_join s.made (Op.Closure to m.code m.kept At.Heap ∷ [])))
           (each_append (λ y. y < n + (place + 1)) (made_by s.made) (to.0 ∷ []) (each_more (λ y. y < n + place) (λ y. y < n + (place + 1)) (made_by s.made) (λ y a. omega (arith, a)) (s.below n e)) (omega (arith, at), tt));
@@ -97,18 +104,23 @@ makes_all w vars old new before after lams tos place s e len = record {
   ops = s.ops;
   grows = s.grows;
   next = s.next;
+  adds = s.adds;
+  binds = λ same. s.binds same ∙ ap numbers (take_all place tos (omega (arith, e, len)));
   labels = λ cps n k c ps ts f g xs count. subst (λ ls. Labels cps (sketch_of w ps ts) vars xs ls s.made tos) (take_all place lams (omega (arith, e)))
       (subst (λ us. Labels cps (sketch_of w ps ts) vars xs (take place lams) s.made us) (take_all place tos (omega (arith, e, len))) (s.labels cps n k c ps ts f g xs (count ∙ sym e)));
 }
 
-pub laid_labels : (cps : Cps) (w : Tables) (old one mid new : Work) (before after : Line) (t body : ℕ) (names : List Var) (lams : List ℕ) (tos : List Var) (last : FrameEnd) → KnowsFirst cps w → AreBelow old.next before.scope → length names ≡ length lams → MayName w before.scope before.site names → AreDistinct (numbers names)
+pub laid_labels : (cps : Cps) (w : Tables) (old one mid new : Work) (before after : Line) (t body : ℕ) (names : List Var) (lams : List ℕ) (tos : List Var) (last : FrameEnd) → KnowsFirst cps w → AreBelow old.next before.scope → length names ≡ length lams → length tos ≡ length lams → MayName w before.scope before.site names → AreDistinct (numbers names)
     → rank_of w body < rank_of w t → numbers tos ≡ counted old.next (length lams) → one.next ≡ old.next + length lams → one.requests ≡ old.requests → one.templates ≡ old.templates → after.scope ≡ paired (numbers names) tos ++ before.scope
-    → MakesAll w after.scope one mid before.ops.items after.ops.items lams tos → Ends w mid new (λ v. GoesOn cps v (context_at w after.scope before.site) body [] last) → IsLaid cps w old new before after t (Node.Labels names lams body) (Done last)
-laid_labels cps w old one mid new before after t body names lams tos last first below len may distinct lower fresh next rs ts scope all ends = record {
+    → MakesAll w after.scope one mid before.ops.items after.ops.items lams tos → Ends w mid new last (λ v. GoesOn cps v (context_at w after.scope before.site) body [] last) → IsLaid cps w old new before after t (Node.Labels names lams body) (Done last)
+laid_labels cps w old one mid new before after t body names lams tos last first below len count may distinct lower fresh next rs ts scope all ends = record {
   made = all.made;
   ops = all.ops;
   leads = record {
     grows = grows_more w old one new (grows_same w old one rs ts (omega (arith, next))) (grows_more w one mid new all.grows ends.grows);
+    adds = adds_behind old one new (bound_by all.made) [] (arms_of last)
+        (subst (λ zs. Adds old one zs []) (sym (all.binds count)) (adds_bound old one (numbers tos) rs (subst (λ zs. Rises old.next zs one.next) (sym fresh) (rises_counted old.next (length lams) one.next (omega (arith, next))))))
+        (adds_more one mid new [] [] [] (arms_of last) all.adds ends.adds);
     below = subst (AreBelow new.next) (sym scope) (each_append (λ p. p.1 < new.next) (paired (numbers names) tos) before.scope
         (pairs_below (numbers names) tos old.next (length lams) new.next fresh (let a = all.next in let b = ends.next in omega (arith, a, b, next))) (below_more old.next new.next before.scope (let a = all.next in let b = ends.next in omega (arith, a, b, next)) below));
     reaches = λ ps qs f g. lays_labels (context_of w before) t names lams body all.made tos [] last

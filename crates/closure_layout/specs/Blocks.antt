@@ -1,5 +1,5 @@
 -- What a block and the whole of them owe: lines of terms, codes, what is fetched, and a block for each request.
-use Rattle.std.specs.Prelude.{◌≡◌, ℕ, ◌+◌, ◌<◌, ◌≤◌, false, List, [], ◌++◌, length, slice_get, IsSomeAnd, Option, Some, None}
+use Rattle.std.specs.Prelude.{◌≡◌, ℕ, ◌+◌, ◌<◌, ◌≤◌, false, List, [], ◌∷◌, ◌++◌, length, slice_get, IsSomeAnd, Option, Some, None}
 use Rattle.std.specs.List.{AllByRecursion}
 use Rattle.t_base.specs.declared.basics.Var.{Var}
 use Rattle.cps_ir.specs.declared.terms.Term.{Term}
@@ -10,7 +10,7 @@ use Rattle.frame_ir.specs.declared.forms.FrameOp.TheVariants as Op
 use Rattle.frame_ir.specs.declared.forms.FrameEnd.{FrameEnd}
 use Rattle.layout_tables.specs.declared.requests.Request.TheVariants as For
 use Rattle.layout_relation.specs.Contexts.{paired, Purpose}
-use Rattle.layout_relation.specs.Laid.{numbers, AreDistinct, Lays, most_needs, BlockFits, Fetches}
+use Rattle.layout_relation.specs.Laid.{numbers, AreDistinct, Lays, GoesOn, most_needs, BlockFits, Fetches}
 use Rattle.frame_ir.specs.declared.forms.Block.{Block}
 use Rattle.layout_tables.specs.declared.requests.Request.{Request}
 use Rattle.layout_tables.specs.declared.tables.Tables.{Tables}
@@ -20,6 +20,13 @@ use Rattle.layout_tables.specs.declared.lines.Step.{Step}
 use Rattle.layout_tables.specs.Sketches.{Scoped, AreBelow, Ever, Grows, lam_needs, context_of, is_celled, purpose_of, purposes_of, counted}
 use Rattle.closure_layout.specs.declared.blocks.OpenScope.{OpenScope}
 use Rattle.layout_steps.specs.Steps.{IsLaid}
+use Rattle.layout_tables.specs.Additions.{Adds, bound_by}
+use Rattle.frame_ir.specs.Parts.{arms_of}
+use Rattle.frame_ir.specs.declared.forms.Frames.{Frames}
+use Rattle.frame_ir.specs.declared.forms.Template.{Template}
+use Rattle.frame_ir.specs.Whole.{HasParams, IsMethodCount}
+use Rattle.layout_relation.specs.Laid.{IsLaidOut}
+use Rattle.layout_laws.specs.Wholeness.{IsOwed}
 
 -- ---- lines
 
@@ -34,11 +41,33 @@ pub record IsLaidFrom (cps : Cps) (w : Tables) (old new : Work) (before after : 
   pub made : List FrameOp
   pub ops : after.ops.items ≡ before.ops.items ++ made
   pub grows : Grows w old new
+  pub adds : Adds old new (bound_by made) (arms_of last)
   pub lays : Ever w new (λ v. Lays cps v (context_of w before) t made last)
+
+-- a block goes on so that it lays out a term, or that another block does which it goes to
+pub record IsGoneFrom (cps : Cps) (w : Tables) (old new : Work) (before after : Line) (t : ℕ) (last : FrameEnd) : Type 0 where
+  pub made : List FrameOp
+  pub ops : after.ops.items ≡ before.ops.items ++ made
+  pub grows : Grows w old new
+  pub adds : Adds old new (bound_by made) (arms_of last)
+  pub goes : Ever w new (λ v. GoesOn cps v (context_of w before) t made last)
+
+-- what a block binds, and what blocks bind and test
+abbrev pub binds_of : Block → List ℕ
+binds_of b = numbers b.params ++ bound_by b.ops.items
+
+abbrev pub bound_in : List Block → List ℕ
+bound_in [] = []
+bound_in (b ∷ blocks) = binds_of b ++ bound_in blocks
+
+abbrev pub arms_in : List Block → List ℕ
+arms_in [] = []
+arms_in (b ∷ blocks) = arms_of b.last ++ arms_in blocks
 
 -- a block for what was asked for
 pub record IsBlockFor (cps : Cps) (w : Tables) (old new : Work) (request : Request) (block : Block) : Type 0 where
   pub grows : Grows w old new
+  pub adds : Adds old new (binds_of block) (arms_of block.last)
   pub fits : Ever w new (λ v. BlockFits cps v (purpose_of w request) block)
 
 -- ---- fetching
@@ -56,6 +85,7 @@ pub record IsFetched (old new : Work) (vars held : Scoped) (before after : List 
   pub requests : new.requests ≡ old.requests
   pub templates : new.templates ≡ old.templates
   pub next : old.next ≤ new.next
+  pub adds : Adds old new (bound_by made) []
   pub fetches : (apart : ℕ) → apart < old.next → Fetches (get_of from) apart (numbers needs) vars held made
 
 -- new parameters, and variables that are held in them
@@ -82,9 +112,28 @@ pub record IsCallable (cps : Cps) (w : Tables) (params needs : List Var) : Type 
 -- a block for each request
 pub record AreLaid (cps : Cps) (w : Tables) (old new : Work) (blocks : List Block) : Type 0 where
   pub grows : Grows w old new
+  pub adds : Adds old new (bound_in blocks) (arms_in blocks)
+  -- an arm stands behind the block that ends in it
+  pub later : (k : ℕ) (b : Block) → slice_get blocks k ≡ Some b → AllByRecursion (λ arm. k < arm) (arms_of b.last)
   pub count : length new.requests.items ≡ length blocks
   pub fits : (k : ℕ) (purpose : Purpose) → slice_get (purposes_of w new.requests.items) k ≡ Some purpose → IsSomeAnd (slice_get blocks k) (λ b. Ever w new (λ v. BlockFits cps v purpose b))
 
 -- the codes of the procedures that stand first
 abbrev pub StandFirst : Tables → ℕ → List Request → Type 0
 StandFirst w n requests = (length requests ≡ n) × ((l : ℕ) → l < n → (slice_get requests l ≡ Some (For.CodeOf l)) × (lam_needs w l ≡ []))
+
+-- ---- templates
+
+abbrev pub IsOpIn : Frames → ℕ → Type 0
+IsOpIn p o = o < length p.shared.ops.items
+
+-- what a template names is there, and operations and codes go together
+pub record IsWholeTemplate (p : Frames) (t : Template) : Type 0 where
+  pub together : length t.ops ≡ length t.codes
+  pub ops : AllByRecursion (IsOpIn p) t.ops
+  pub codes : AllByRecursion (HasParams p IsMethodCount) t.codes
+
+-- frames that lay out a program, and what else makes them whole
+pub record IsLayout (cps : Cps) (p : Frames) : Type 0 where
+  pub laid : IsLaidOut cps p
+  pub owed : IsOwed cps p laid

@@ -3,16 +3,17 @@ ghost use Rattle.std.specs.Prelude.{◌≡◌, ◌∷◌, [], ◌++◌, ◌<◌,
 ghost use Rattle.layout_relation.specs.Contexts.{paired};
 ghost use Rattle.layout_relation.specs.Laid.{numbers};
 ghost use Rattle.layout_tables.specs.Sketches.{AreBelow, KnowsFirst, counted};
-ghost use Rattle.closure_layout.specs.Blocks.{IsStep, IsLaidFrom, IsBlockFor, IsFetched, IsOpened, AreApart, IsCallable, get_of};
+ghost use Rattle.layout_tables.specs.Additions.{SeesBelow};
+ghost use Rattle.closure_layout.specs.Blocks.{IsStep, IsLaidFrom, IsGoneFrom, IsBlockFor, IsFetched, IsOpened, AreApart, IsCallable, get_of};
 ghost use Rattle.layout_tables.specs.declared.requests.Request.TheVariants as For;
 
 use crate::labels::lay_labels;
 use cps_ir::{Arg, Cps, Term};
 use frame_ir::{Block, FrameEnd, FrameOp};
 use layout_steps::{
-    are_few, jump, lay_call, lay_catch, lay_cell, lay_cell_get, lay_cell_set, lay_give,
-    lay_global_get, lay_global_init, lay_global_set, lay_halt, lay_if, lay_join, lay_prim,
-    lay_uncatch,
+    are_few, go_to_join, jump, lay_call, lay_catch, lay_cell, lay_cell_get, lay_cell_set, lay_give,
+    lay_global_get, lay_global_init, lay_global_set, lay_halt, lay_if, lay_join, lay_object,
+    lay_prim, lay_uncatch,
 };
 use layout_tables::{
     Line, Request, Scope, Site, Step, Tables, Work, are_distinct, find_all, is_celled, lam_needs,
@@ -105,7 +106,18 @@ fn lay_term(
             let step = lay_labels(alloc, cps, tables, work, line, place, vars, lams, *body)?;
             Ok(step)
         }
-        _ => Err(Memory),
+        Term::Object {
+            proc,
+            ops,
+            methods,
+            k,
+        } => {
+            let step = lay_object(
+                alloc, cps, tables, work, line, place, *proc, ops, methods, *k,
+            )?;
+            Ok(step)
+        }
+        Term::Set { .. } => Err(Memory),
     }
 }
 
@@ -142,12 +154,10 @@ fn arm_block(
     site: &Site,
     term: u32,
 ) -> Result<Block, Memory>
-    requires { KnowsFirst cps.now tables.now }
+    requires first { KnowsFirst cps.now tables.now }
+    requires below { AreBelow work.old.next scope.now }
     ensures { IfOk result (IsBlockFor cps.now tables.now work.old work.new (For.ArmOf scope.now site.now term)) }
 {
-    if !scope.is_below(work.next) {
-        return Err(Memory);
-    }
     let mut line = Line {
         ops: Vec::new(alloc),
         scope: scope.copy(alloc)?,
@@ -260,6 +270,43 @@ fn fetch(from: Option<Var>, to: Var, slot: u32) -> FrameOp
     }
 }
 
+/// Goes on behind a frame with the body of its continuation, or, where this is a Join's, in the block of the Join.
+fn go_behind(
+    alloc: Global,
+    cps: &Cps,
+    tables: &Tables,
+    work: &mut Work,
+    line: &mut Line,
+    param: Var,
+    body: u32,
+    join: Option<u32>,
+) -> Result<FrameEnd, Memory>
+    requires first { KnowsFirst cps.now tables.now }
+    requires below { AreBelow work.old.next line.old.scope }
+    ensures { IfOk result (IsGoneFrom cps.now tables.now work.old work.new line.old line.new body) }
+{
+    match join {
+        Some(block) => {
+            let last = go_to_join(
+                alloc,
+                cps,
+                tables,
+                work,
+                &line.scope,
+                &line.site,
+                param,
+                body,
+                block,
+            )?;
+            Ok(last)
+        }
+        None => {
+            let last = lay_line(alloc, cps, tables, work, line, body)?;
+            Ok(last)
+        }
+    }
+}
+
 /// Goes on behind a call: the value, all that its frame keeps, and the rest.
 fn return_block(
     alloc: Global,
@@ -269,9 +316,10 @@ fn return_block(
     param: Var,
     body: u32,
     site: &Site,
+    join: Option<u32>,
 ) -> Result<Block, Memory>
     requires { KnowsFirst cps.now tables.now }
-    ensures { IfOk result (IsBlockFor cps.now tables.now work.old work.new (For.Resumes param body site.now)) }
+    ensures { IfOk result (IsBlockFor cps.now tables.now work.old work.new (For.Resumes param body site.now join)) }
 {
     let needs = needs_behind(alloc, tables, param, body)?;
     let site = site.copy(alloc)?;
@@ -291,7 +339,7 @@ fn return_block(
     fetch_all(work, &mut scope, &mut ops, &needs, None)?;
     ops.push(FrameOp::Pop)?;
     let mut line = Line { ops, scope, site };
-    let last = lay_line(alloc, cps, tables, work, &mut line, body)?;
+    let last = go_behind(alloc, cps, tables, work, &mut line, param, body, join)?;
     let mut params = Vec::new(alloc);
     params.push(value)?;
     Ok(Block {
@@ -363,6 +411,46 @@ fn code_block(
     })
 }
 
+/// The code of a method of an object that keeps some variables: it fetches them, and goes on in a block for the body.
+fn method_block(
+    alloc: Global,
+    cps: &Cps,
+    tables: &Tables,
+    work: &mut Work,
+    l: u32,
+    kept: &Vars,
+) -> Result<Block, Memory>
+    ensures { IfOk result (IsBlockFor cps.now tables.now work.old work.new (For.MethodOf l kept.now)) }
+{
+    let Some(lam) = cps.lams.get(l as usize) else {
+        return Err(Memory);
+    };
+    if !is_callable(cps, tables, &lam.params, kept.as_slice()) {
+        return Err(Memory);
+    }
+    let opened = open_scope(alloc, work, &lam.params)?;
+    let Some((own, rest)) = opened.params.as_slice().split_first() else {
+        return Err(Memory);
+    };
+    let own = *own;
+    let mut scope = opened.scope;
+    let mut ops = Vec::new(alloc);
+    fetch_all(work, &mut scope, &mut ops, kept.as_slice(), Some(own))?;
+    let vars = join_vars(alloc, lam.params.as_slice(), lam_needs(tables, l))?;
+    let ats = find_all(alloc, &scope, vars.as_slice())?;
+    let block = work.request(Request::Begins {
+        vars,
+        site: Site::new(alloc, Some(lam.k)),
+        term: lam.body,
+    })?;
+    let last = jump(alloc, block, &ats)?;
+    Ok(Block {
+        params: opened.params,
+        ops,
+        last,
+    })
+}
+
 /// Whether a procedure's parameters, and what it needs, are few, and no parameter stands twice.
 fn is_callable(cps: &Cps, tables: &Tables, params: &Vars, needs: &[Var]) -> bool
     ensures { IsTrue result → IsCallable cps.now tables.now params.now needs.now }
@@ -382,7 +470,8 @@ pub(crate) fn lay_block(
     work: &mut Work,
     request: &Request,
 ) -> Result<Block, Memory>
-    requires { KnowsFirst cps.now tables.now }
+    requires first { KnowsFirst cps.now tables.now }
+    requires sees { SeesBelow work.old.next request.now }
     ensures { IfOk result (IsBlockFor cps.now tables.now work.old work.new request.now) }
 {
     match request {
@@ -402,10 +491,18 @@ pub(crate) fn lay_block(
             let block = passing_block(alloc, cps, tables, work)?;
             Ok(block)
         }
-        Request::Resumes { param, body, site } => {
-            let block = return_block(alloc, cps, tables, work, *param, *body, site)?;
+        Request::Resumes {
+            param,
+            body,
+            site,
+            join,
+        } => {
+            let block = return_block(alloc, cps, tables, work, *param, *body, site, *join)?;
             Ok(block)
         }
-        Request::MethodOf { .. } => Err(Memory),
+        Request::MethodOf { lam, kept } => {
+            let block = method_block(alloc, cps, tables, work, *lam, kept)?;
+            Ok(block)
+        }
     }
 }

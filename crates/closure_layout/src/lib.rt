@@ -5,5 +5,6 @@
 mod blocks;
 mod labels;
 mod layouts;
+mod templates;
 
 pub use crate::layouts::layout;

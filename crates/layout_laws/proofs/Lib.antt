@@ -1,3 +1,4 @@
 pub mod Shapely
 pub mod Seen
 pub mod Scopes
+pub mod OwnArms

@@ -78,14 +78,14 @@ no_parent (b ∷ bs) i m e h = by_test (is_in (arms_of b.last) m) refl e (λ r g
 
 -- ---- how often a number stands in a list
 
-abbrev times : ℕ → List ℕ → ℕ
+abbrev pub times : ℕ → List ℕ → ℕ
 times m [] = 0
 times m (x ∷ xs) = cond (x == m) (1 + times m xs) (times m xs)
 
-times_count : (m : ℕ) (xs : List ℕ) → times m xs ≡ count_by (λ b. b == m) xs
+pub times_count : (m : ℕ) (xs : List ℕ) → times m xs ≡ count_by (λ b. b == m) xs
 times_count m = is_count_by (times m) (λ b. b == m) refl (λ x xs. refl)
 
-times_join : (m : ℕ) (xs ys : List ℕ) → times m (xs ++ ys) ≡ times m xs + times m ys
+pub times_join : (m : ℕ) (xs ys : List ℕ) → times m (xs ++ ys) ≡ times m xs + times m ys
 times_join m [] ys = omega arith
 times_join m (x ∷ xs) ys = by_test (x == m) (times_join m xs ys)
   where
@@ -108,7 +108,7 @@ arm_is_target (Last.Jump block args) m h = absurd (false≢true h)
 arm_is_target (Last.Return value) m h = absurd (false≢true h)
 arm_is_target (Last.Halt value) m h = absurd (false≢true h)
 
-abbrev targets_in : List Block → List ℕ
+abbrev pub targets_in : List Block → List ℕ
 targets_in bs = flat_map (λ (b : Block). targets_of b.last) bs
 
 target_later : (bs : List Block) (k m : ℕ) (b : Block) → slice_get bs k ≡ Some b → is_in (arms_of b.last) m ≡ true → 1 ≤ times m (targets_in bs)

@@ -39,13 +39,13 @@ use Rattle.layout_laws.specs.Wholeness.{AreTemplates, AreOwnArms, LaidOutHasPlac
 
 -- ---- what holds of each argument, operation and end
 
-abbrev GoodArg : Frames → Arg → Type 0
+abbrev pub GoodArg : Frames → Arg → Type 0
 GoodArg p a = IsArg p a × (arg_codes a ≡ [])
 
-abbrev GoodArgs : Frames → List Arg → Type 0
+abbrev pub GoodArgs : Frames → List Arg → Type 0
 GoodArgs p args = AllByRecursion (GoodArg p) args
 
-abbrev GoodOp : Frames → FrameOp → Type 0
+abbrev pub GoodOp : Frames → FrameOp → Type 0
 GoodOp p (Op.Prim to b args) = (length args ≡ arity_of b) × GoodArgs p args
 GoodOp p (Op.Closure to code kept at) = (at ≡ At.Heap) × HasParams p IsCodeCount code
 GoodOp p (Op.Cell to value) = GoodArg p value
@@ -57,32 +57,39 @@ GoodOp p (Op.CatchOpen to back) = HasParams p (λ n. n ≡ 1) back
 GoodOp p (Op.Object to template proc kept) = (template < length p.templates.items) × GoodArg p proc
 GoodOp p _ = Unit {0}
 
-abbrev GoodOps : Frames → List FrameOp → Type 0
+abbrev pub GoodOps : Frames → List FrameOp → Type 0
 GoodOps p ops = AllByRecursion (GoodOp p) ops
 
-abbrev GoodArm : Frames → ℕ → Type 0
+abbrev pub GoodArm : Frames → ℕ → Type 0
 GoodArm p k = HasParams p (λ n. n ≡ 0) k × (k ≢ p.entry)
 
-abbrev GoodEnd : Frames → FrameEnd → Type 0
-GoodEnd p (Last.Call f args) = (length args ≤ most_operands) × GoodArgs p (f ∷ args)
-GoodEnd p (Last.Jump block args) = IsSomeAnd (slice_get p.blocks.items block) (λ b. length b.params ≡ length args) × GoodArgs p args
-GoodEnd p (Last.If test first second) = (GoodArm p first × GoodArm p second) × GoodArg p test
-GoodEnd p (Last.Return value) = GoodArg p value
-GoodEnd p (Last.Halt value) = GoodArg p value
+-- a block that begins a term, and one that is an arm
+abbrev pub Begun : Sketch → ℕ → Type 0
+Begun w k = (start : Start) × IsFor w k (Begins start)
 
-pub record GoodRest (p : Frames) (behind : List FrameOp) (end : FrameEnd) : Type 0 where
+abbrev pub IsArmFor : Sketch → ℕ → Type 0
+IsArmFor w k = (c : Context) × (t : ℕ) × IsFor w k (ArmOf c t)
+
+abbrev pub GoodEnd : Frames → Sketch → FrameEnd → Type 0
+GoodEnd p w (Last.Call f args) = (length args ≤ most_operands) × GoodArgs p (f ∷ args)
+GoodEnd p w (Last.Jump block args) = IsSomeAnd (slice_get p.blocks.items block) (λ b. length b.params ≡ length args) × GoodArgs p args × Begun w block
+GoodEnd p w (Last.If test first second) = (GoodArm p first × GoodArm p second) × GoodArg p test × (IsArmFor w first × IsArmFor w second)
+GoodEnd p w (Last.Return value) = GoodArg p value
+GoodEnd p w (Last.Halt value) = GoodArg p value
+
+pub record GoodRest (p : Frames) (w : Sketch) (behind : List FrameOp) (end : FrameEnd) : Type 0 where
   pub ops : GoodOps p behind
-  pub last : GoodEnd p end
+  pub last : GoodEnd p w end
 
 -- an operation more, operations in front
-more : (p : Frames) (op : FrameOp) (ops : List FrameOp) (last : FrameEnd) → GoodOp p op → GoodRest p ops last → GoodRest p (op ∷ ops) last
-more p op ops last g r = record { ops = (g, r.ops); last = r.last }
+more : (p : Frames) (w : Sketch) (op : FrameOp) (ops : List FrameOp) (last : FrameEnd) → GoodOp p op → GoodRest p w ops last → GoodRest p w (op ∷ ops) last
+more p w op ops last g r = record { ops = (g, r.ops); last = r.last }
 
-before : (p : Frames) (made ops : List FrameOp) (last : FrameEnd) → GoodOps p made → GoodRest p ops last → GoodRest p (made ++ ops) last
-before p made ops last g r = record { ops = each_append (GoodOp p) made ops g r.ops; last = r.last }
+before : (p : Frames) (w : Sketch) (made ops : List FrameOp) (last : FrameEnd) → GoodOps p made → GoodRest p w ops last → GoodRest p w (made ++ ops) last
+before p w made ops last g r = record { ops = each_append (GoodOp p) made ops g r.ops; last = r.last }
 
-only : (p : Frames) (last : FrameEnd) → GoodEnd p last → GoodRest p [] last
-only p last g = record { ops = tt; last = g }
+only : (p : Frames) (w : Sketch) (last : FrameEnd) → GoodEnd p w last → GoodRest p w [] last
+only p w last g = record { ops = tt; last = g }
 
 good_variables : (p : Frames) (ys : List Var) → GoodArgs p (variables ys)
 good_variables p [] = tt
@@ -187,10 +194,10 @@ module _ (cps : Cps) (p : Frames) (whole : IsWhole cps) (laid : IsLaidOut cps p)
 
   -- ---- jumps
 
-  jump_good : (block : ℕ) (start : Start) (args : List Arg) → IsFor w block (Begins start) → length start.vars ≡ length args → GoodArgs p args → GoodEnd p (Last.Jump block args)
+  jump_good : (block : ℕ) (start : Start) (args : List Arg) → IsFor w block (Begins start) → length start.vars ≡ length args → GoodArgs p args → GoodEnd p w (Last.Jump block args)
   jump_good block start args for n good =
       let b = block_at cps p laid block (Begins start) for in
-      (subst (λ o. IsSomeAnd o (λ x. length x.params ≡ length args)) (sym b.is) (sym b.fits.count ∙ n), good)
+      (subst (λ o. IsSomeAnd o (λ x. length x.params ≡ length args)) (sym b.is) (sym b.fits.count ∙ n), good, (start, for))
 
   passed : (xs : List ℕ) (ys : List Var) {R : ℕ → Var → Type 0} → Zipped R xs ys → length xs ≡ length (variables ys)
   passed xs ys h = zipped_length _ xs ys h ∙ sym (variables_count ys)
@@ -206,21 +213,21 @@ module _ (cps : Cps) (p : Frames) (whole : IsWhole cps) (laid : IsLaidOut cps p)
   -- ---- terms
 
   mutual
-    gives_good : (c : Context) (t : ℕ) (k : Cont) (a : Arg) (ops : List FrameOp) (last : FrameEnd) → GoodArg p a → Gives cps w c t k a ops last → GoodRest p ops last
-    gives_good c t k a ops last g (gives_out c2 t2 j a2 out none) = only p _ g
-    gives_good c t k a ops last g (gives_join c2 t2 j a2 m rest ys meets for held new few) = only p _ (jump_good m.block _ (a2 ∷ variables ys) for (ap suc (passed m.needs ys held)) (g, good_variables p ys))
-    gives_good c t k a ops last g (gives_jump c2 t2 param body a2 block needs ys for held new few) = only p _ (jump_good block _ (a2 ∷ variables ys) for (ap suc (passed needs ys held)) (g, good_variables p ys))
+    gives_good : (c : Context) (t : ℕ) (k : Cont) (a : Arg) (ops : List FrameOp) (last : FrameEnd) → GoodArg p a → Gives cps w c t k a ops last → GoodRest p w ops last
+    gives_good c t k a ops last g (gives_out c2 t2 j a2 out none) = only p w _ g
+    gives_good c t k a ops last g (gives_join c2 t2 j a2 m rest ys meets for held new few) = only p w _ (jump_good m.block _ (a2 ∷ variables ys) for (ap suc (passed m.needs ys held)) (g, good_variables p ys))
+    gives_good c t k a ops last g (gives_jump c2 t2 param body a2 block needs ys for held new few) = only p w _ (jump_good block _ (a2 ∷ variables ys) for (ap suc (passed needs ys held)) (g, good_variables p ys))
     gives_good c t k a ops last g (gives_here c2 t2 param body x ops2 last2 fresh plain lower laying) = lays_good _ body ops2 last2 laying
     gives_good c t k a ops last g (gives_unused c2 t2 param body a2 ops2 last2 fresh lower laying) = lays_good c2 body ops2 last2 laying
 
-    goes_good : (c : Context) (t : ℕ) (ops : List FrameOp) (last : FrameEnd) → GoesOn cps w c t ops last → GoodRest p ops last
+    goes_good : (c : Context) (t : ℕ) (ops : List FrameOp) (last : FrameEnd) → GoesOn cps w c t ops last → GoodRest p w ops last
     goes_good c t ops last (goes_here c2 t2 ops2 last2 laying) = lays_good c2 t2 ops2 last2 laying
-    goes_good c t ops last (goes_to c2 t2 block needs ys for held few) = only p _ (jump_good block _ (variables ys) for (passed needs ys held) (good_variables p ys))
+    goes_good c t ops last (goes_to c2 t2 block needs ys for held few) = only p w _ (jump_good block _ (variables ys) for (passed needs ys held) (good_variables p ys))
 
-    lays_good : (c : Context) (t : ℕ) (ops : List FrameOp) (last : FrameEnd) → Lays cps w c t ops last → GoodRest p ops last
+    lays_good : (c : Context) (t : ℕ) (ops : List FrameOp) (last : FrameEnd) → Lays cps w c t ops last → GoodRest p w ops last
     lays_good c t ops last (lays c2 t2 term ops2 last2 is fits) = term_good c2 t2 term ops2 last2 (sources_at t2 term is) (names_at t2 term is) (shape_at t2 term is) fits
 
-    term_good : (c : Context) (t : ℕ) (term : Term) (ops : List FrameOp) (last : FrameEnd) → Sources cps (args_of term) → HasNames cps term → IsShaped cps term → LaysTerm cps w c t term ops last → GoodRest p ops last
+    term_good : (c : Context) (t : ℕ) (term : Term) (ops : List FrameOp) (last : FrameEnd) → Sources cps (args_of term) → HasNames cps term → IsShaped cps term → LaysTerm cps w c t term ops last → GoodRest p w ops last
     term_good c t term ops last s n h (lays_tail_call c2 t2 f args k ms g bs prep out none) =
         let r = prepares_good c2.vars _ ms _ prep s in
         let count = r.count in
@@ -230,53 +237,53 @@ module _ (cps : Cps) (p : Frames) (whole : IsWhole cps) (laid : IsLaidOut cps p)
         let q = prepares_good c2.vars _ ms _ prep s in
         let count = q.count in
         let few = h.lists in
-        before p ms _ _ q.made (more p _ [] _ (back_good back r for) (only p _ (omega (arith, count, few), q.args)))
+        before p w ms _ _ q.made (more p w _ [] _ (back_good back r for) (only p w _ (omega (arith, count, few), q.args)))
     term_good c t term ops last s n h (lays_prim c2 t2 f args k ms bs to ops2 last2 prep unused gives) =
         let r = prepares_good c2.vars _ ms _ prep s in
-        before p ms _ _ r.made (more p _ ops2 _ (r.count ∙ h.lists, r.args) (gives_good c2 t2 k _ ops2 last2 (tt, refl) gives))
+        before p w ms _ _ r.made (more p w _ ops2 _ (r.count ∙ h.lists, r.args) (gives_good c2 t2 k _ ops2 last2 (tt, refl) gives))
     term_good c t term ops last s n h (lays_if c2 t2 test one other ms x there_arm other_arm prep fy fn) =
         let r = prepares_good c2.vars _ ms _ prep s in
-        record { ops = r.made; last = ((arm_good there_arm c2 one fy, arm_good other_arm c2 other fn), r.args.0) }
-    term_good c t term ops last s n h (lays_labels c2 t2 xs lams body ms tos ops2 last2 labels fresh distinct unused apart lower onward) = before p ms ops2 _ (labels_good _ xs lams ms tos labels) (goes_good _ body ops2 last2 onward)
+        record { ops = r.made; last = ((arm_good there_arm c2 one fy, arm_good other_arm c2 other fn), r.args.0, ((c2, one, fy), (c2, other, fn))) }
+    term_good c t term ops last s n h (lays_labels c2 t2 xs lams body ms tos ops2 last2 labels fresh distinct unused apart lower onward) = before p w ms ops2 _ (labels_good _ xs lams ms tos labels) (goes_good _ body ops2 last2 onward)
     term_good c t term ops last s n h (lays_join c2 t2 k param body rest block needs ops2 last2 lower laying) = lays_good _ rest ops2 last2 laying
     term_good c t term ops last s n h (lays_give c2 t2 k value ms x ops2 last2 prep apart gives) =
-        let r = prepares_good c2.vars _ ms _ prep s in before p ms ops2 _ r.made (gives_good c2 t2 k x ops2 last2 r.args.0 gives)
-    term_good c t term ops last s n h (lays_global_get c2 t2 g k to ops2 last2 lt unused gives) = more p _ ops2 _ (global_there g lt) (gives_good c2 t2 k _ ops2 last2 (tt, refl) gives)
+        let r = prepares_good c2.vars _ ms _ prep s in before p w ms ops2 _ r.made (gives_good c2 t2 k x ops2 last2 r.args.0 gives)
+    term_good c t term ops last s n h (lays_global_get c2 t2 g k to ops2 last2 lt unused gives) = more p w _ ops2 _ (global_there g lt) (gives_good c2 t2 k _ ops2 last2 (tt, refl) gives)
     term_good c t term ops last s n h (lays_global_init c2 t2 g value k ms x ops2 last2 lt none prep gives) =
-        let r = prepares_good c2.vars _ ms _ prep s in before p ms _ _ r.made (more p _ ops2 _ (global_there g lt, (global_kind g h.lists, r.args.0)) (gives_good c2 t2 k x ops2 last2 r.args.0 gives))
+        let r = prepares_good c2.vars _ ms _ prep s in before p w ms _ _ r.made (more p w _ ops2 _ (global_there g lt, (global_kind g h.lists, r.args.0)) (gives_good c2 t2 k x ops2 last2 r.args.0 gives))
     term_good c t term ops last s n h (lays_global_set c2 t2 g value k ms x ops2 last2 lt none prep gives) =
-        let r = prepares_good c2.vars _ ms _ prep s in before p ms _ _ r.made (more p _ ops2 _ (global_there g lt, (global_kind g h.lists, r.args.0)) (gives_good c2 t2 k x ops2 last2 r.args.0 gives))
+        let r = prepares_good c2.vars _ ms _ prep s in before p w ms _ _ r.made (more p w _ ops2 _ (global_there g lt, (global_kind g h.lists, r.args.0)) (gives_good c2 t2 k x ops2 last2 r.args.0 gives))
     term_good c t term ops last s n h (lays_cell c2 t2 x value rest ms y to ops2 last2 prep fresh celled unused onward) =
-        let r = prepares_good c2.vars _ ms _ prep s in before p ms _ _ r.made (more p _ ops2 _ r.args.0 (goes_good _ rest ops2 last2 onward))
-    term_good c t term ops last s n h (lays_cell_get c2 t2 x y k to ops2 last2 held celled unused gives) = more p _ ops2 _ tt (gives_good c2 t2 k _ ops2 last2 (tt, refl) gives)
+        let r = prepares_good c2.vars _ ms _ prep s in before p w ms _ _ r.made (more p w _ ops2 _ r.args.0 (goes_good _ rest ops2 last2 onward))
+    term_good c t term ops last s n h (lays_cell_get c2 t2 x y k to ops2 last2 held celled unused gives) = more p w _ ops2 _ tt (gives_good c2 t2 k _ ops2 last2 (tt, refl) gives)
     term_good c t term ops last s n h (lays_cell_set c2 t2 x y value k ms z ops2 last2 prep held celled gives) =
-        let r = prepares_good c2.vars _ ms _ prep s in before p ms _ _ r.made (more p _ ops2 _ r.args.0 (gives_good c2 t2 k z ops2 last2 r.args.0 gives))
+        let r = prepares_good c2.vars _ ms _ prep s in before p w ms _ _ r.made (more p w _ ops2 _ r.args.0 (gives_good c2 t2 k z ops2 last2 r.args.0 gives))
     term_good c t term ops last s n h (lays_object c2 t2 proc names methods k ms x template shape needs kept to ops2 last2 prep count is_shape are_methods held small unused gives) =
         let r = prepares_good c2.vars _ ms _ prep s in
-        before p ms _ _ r.made
-        (more p _ ops2 _ (subst (λ ts. template < length ts) (sym laid.templates) (slice_get_within w.templates template shape is_shape), r.args.0) (gives_good c2 t2 k _ ops2 last2 (tt, refl) gives))
-    term_good c t term ops last s n h (lays_tail_catch c2 t2 x body k to back ops2 last2 out none passes fresh plain unused onward) = more p _ ops2 _ (passing_good back passes) (goes_good _ body ops2 last2 onward)
+        before p w ms _ _ r.made
+        (more p w _ ops2 _ (subst (λ ts. template < length ts) (sym laid.templates) (slice_get_within w.templates template shape is_shape), r.args.0) (gives_good c2 t2 k _ ops2 last2 (tt, refl) gives))
+    term_good c t term ops last s n h (lays_tail_catch c2 t2 x body k to back ops2 last2 out none passes fresh plain unused onward) = more p w _ ops2 _ (passing_good back passes) (goes_good _ body ops2 last2 onward)
     term_good c t term ops last s n h (lays_catch c2 t2 x body k r kept to back ops2 last2 awaits for held once fresh plain unused onward) =
-        more p _ (Op.CatchOpen to back ∷ ops2) _ (back_good back r for) (more p _ ops2 _ (back_good back r for) (goes_good _ body ops2 last2 onward))
+        more p w _ (Op.CatchOpen to back ∷ ops2) _ (back_good back r for) (more p w _ ops2 _ (back_good back r for) (goes_good _ body ops2 last2 onward))
     term_good c t term ops last s n h (lays_tail_uncatch c2 t2 k value outer ms y ops2 last2 open_ prep gives) =
-        let r = prepares_good c2.vars _ ms _ prep s in before p ms _ _ r.made (more p _ ops2 _ tt (gives_good _ t2 k y ops2 last2 r.args.0 gives))
+        let r = prepares_good c2.vars _ ms _ prep s in before p w ms _ _ r.made (more p w _ ops2 _ tt (gives_good _ t2 k y ops2 last2 r.args.0 gives))
     term_good c t term ops last s n h (lays_uncatch c2 t2 k value outer ms y ops2 last2 open_ prep gives) =
-        let r = prepares_good c2.vars _ ms _ prep s in before p ms _ _ r.made (more p _ (Op.Pop ∷ ops2) _ tt (more p _ ops2 _ tt (gives_good _ t2 k y ops2 last2 r.args.0 gives)))
+        let r = prepares_good c2.vars _ ms _ prep s in before p w ms _ _ r.made (more p w _ (Op.Pop ∷ ops2) _ tt (more p w _ ops2 _ tt (gives_good _ t2 k y ops2 last2 r.args.0 gives)))
     term_good c t term ops last s n h (lays_halt c2 t2 value ms x prep) = let r = prepares_good c2.vars _ ms _ prep s in record { ops = r.made; last = r.args.0 }
 
   -- ---- blocks
 
-  code_rest : (k : ℕ) (b : Block) (body : ℕ) (start : Start) (ys : List Var) → b.last ≡ Last.Jump body (variables ys) → IsFor w body (Begins start) → length start.vars ≡ length (variables ys) → GoodOps p b.ops.items → GoodRest p b.ops.items b.last
-  code_rest k b body start ys goes for n ops = record { ops = ops; last = subst (GoodEnd p) (sym goes) (jump_good body start (variables ys) for n (good_variables p ys)) }
+  code_rest : (k : ℕ) (b : Block) (body : ℕ) (start : Start) (ys : List Var) → b.last ≡ Last.Jump body (variables ys) → IsFor w body (Begins start) → length start.vars ≡ length (variables ys) → GoodOps p b.ops.items → GoodRest p w b.ops.items b.last
+  code_rest k b body start ys goes for n ops = record { ops = ops; last = subst (GoodEnd p w) (sym goes) (jump_good body start (variables ys) for n (good_variables p ys)) }
 
-  block_good : (k : ℕ) (purpose : Purpose) (b : Block) → BlockFits cps w purpose b → GoodRest p b.ops.items b.last
+  block_good : (k : ℕ) (purpose : Purpose) (b : Block) → BlockFits cps w purpose b → GoodRest p w b.ops.items b.last
   block_good k (CodeOf l) b fits =
       code_rest k b fits.body _ fits.ys fits.goes fits.begins (passed _ fits.ys fits.held) (fetches_good (λ y slot. Op.ClosureGet y fits.self slot) (λ y slot. tt) fits.self.0 _ _ _ b.ops.items fits.fetches)
   block_good k (MethodOf l kept) b fits =
       code_rest k b fits.body _ fits.ys fits.goes fits.begins (passed _ fits.ys fits.held) (fetches_good (λ y slot. Op.ClosureGet y fits.self slot) (λ y slot. tt) fits.self.0 _ _ _ b.ops.items fits.fetches)
   block_good k (Begins start) b fits = lays_good _ start.term b.ops.items b.last fits.lays
   block_good k (ArmOf c t) b fits = lays_good c t b.ops.items b.last fits.lays
-  block_good k PassesOn b fits = record { ops = subst (GoodOps p) (sym fits.ops) tt; last = subst (GoodEnd p) (sym fits.goes) (tt, refl) }
+  block_good k PassesOn b fits = record { ops = subst (GoodOps p) (sym fits.ops) tt; last = subst (GoodEnd p w) (sym fits.goes) (tt, refl) }
   block_good k (Resumes r) b fits =
       let rest = goes_good _ r.body fits.rest b.last fits.goes in
       record {
@@ -285,12 +292,12 @@ module _ (cps : Cps) (p : Frames) (whole : IsWhole cps) (laid : IsLaidOut cps p)
       }
 
   -- each block has a purpose
-  pub all_good : All (λ b. GoodRest p b.ops.items b.last) p.blocks.items
+  pub all_good : All (λ b. GoodRest p w b.ops.items b.last) p.blocks.items
   all_good k d lt =
       let found = some_at w.purposes k (let e = laid.count in omega (arith, e, lt)) in
       let blk = block_at cps p laid k found.0 found.1 in
       let e = same_block (slice_index_or p.blocks.items k d) blk.block (sym (slice_get-get_or p.blocks.items k d lt) ∙ blk.is) in
-      subst (λ b. GoodRest p b.ops.items b.last) (sym e) (block_good k found.0 blk.block blk.fits)
+      subst (λ b. GoodRest p w b.ops.items b.last) (sym e) (block_good k found.0 blk.block blk.fits)
     where
       same_block : (a b : Block) → Some a ≡ Some b → a ≡ b
       same_block a b h = cc
@@ -298,8 +305,8 @@ module _ (cps : Cps) (p : Frames) (whole : IsWhole cps) (laid : IsLaidOut cps p)
   abbrev Blocks : (Block → Type 0) → Type 0
   Blocks P = AllByRecursion P p.blocks.items
 
-  each_good : Blocks (λ b. GoodRest p b.ops.items b.last)
-  each_good = each_of_all (λ b. GoodRest p b.ops.items b.last) p.blocks.items all_good
+  pub each_good : Blocks (λ b. GoodRest p w b.ops.items b.last)
+  each_good = each_of_all (λ b. GoodRest p w b.ops.items b.last) p.blocks.items all_good
 
   -- ---- what is told by group, of operations and ends
 
@@ -328,7 +335,7 @@ module _ (cps : Cps) (p : Frames) (whole : IsWhole cps) (laid : IsLaidOut cps p)
   jump_there : (block : ℕ) (args : List Arg) → IsSomeAnd (slice_get p.blocks.items block) (λ b. length b.params ≡ length args) → IsBlock p block
   jump_there block args h = there p (λ n. n ≡ length args) block h
 
-  end_named : (last : FrameEnd) → GoodEnd p last → All (IsBlock p) (targets_of last) × All (IsArg p) (end_args last)
+  end_named : (last : FrameEnd) → GoodEnd p w last → All (IsBlock p) (targets_of last) × All (IsArg p) (end_args last)
   end_named (Last.Call f args) g = (blocks_are [] tt, arg_is (f ∷ args) g.1)
   end_named (Last.Jump block args) g = (blocks_are (block ∷ []) (jump_there block args g.0, tt), arg_is args g.1)
   end_named (Last.If test first second) g =
@@ -357,7 +364,7 @@ module _ (cps : Cps) (p : Frames) (whole : IsWhole cps) (laid : IsLaidOut cps p)
   op_shaped Op.CatchClose g = tt
   op_shaped (Op.Object to template proc kept) g = tt
 
-  end_shaped : (last : FrameEnd) → GoodEnd p last → IsShapedEnd p last
+  end_shaped : (last : FrameEnd) → GoodEnd p w last → IsShapedEnd p last
   end_shaped (Last.Call f args) g = g.0
   end_shaped (Last.Jump block args) g = g.0
   end_shaped (Last.If test first second) g = tt
@@ -418,21 +425,21 @@ module _ (cps : Cps) (p : Frames) (whole : IsWhole cps) (laid : IsLaidOut cps p)
   op_good_args (Op.CatchOpen to back) g = tt
   op_good_args Op.CatchClose g = tt
 
-  end_good_args : (last : FrameEnd) → GoodEnd p last → GoodArgs p (end_args last)
+  end_good_args : (last : FrameEnd) → GoodEnd p w last → GoodArgs p (end_args last)
   end_good_args (Last.Call f args) g = g.1
   end_good_args (Last.Jump block args) g = g.1
   end_good_args (Last.If test first second) g = (g.1, tt)
   end_good_args (Last.Return value) g = (g, tt)
   end_good_args (Last.Halt value) g = (g, tt)
 
-  end_arms : (last : FrameEnd) → GoodEnd p last → AllByRecursion (GoodArm p) (arms_of last)
+  end_arms : (last : FrameEnd) → GoodEnd p w last → AllByRecursion (GoodArm p) (arms_of last)
   end_arms (Last.If test first second) g = (g.0.0, (g.0.1, tt))
   end_arms (Last.Call f args) g = tt
   end_arms (Last.Jump block args) g = tt
   end_arms (Last.Return value) g = tt
   end_arms (Last.Halt value) g = tt
 
-  block_codes : (b : Block) → GoodRest p b.ops.items b.last → AllByRecursion IsCode (flat_map codes_of b.ops.items ++ flat_map arg_codes (block_args b))
+  block_codes : (b : Block) → GoodRest p w b.ops.items b.last → AllByRecursion IsCode (flat_map codes_of b.ops.items ++ flat_map arg_codes (block_args b))
   block_codes b g =
       each_append IsCode (flat_map codes_of b.ops.items) (flat_map arg_codes (block_args b)) (each_joined codes_of IsCode b.ops.items (each_more (GoodOp p) (λ op. AllByRecursion IsCode (codes_of op)) b.ops.items op_codes g.ops))
       (each_joined arg_codes IsCode (block_args b)
@@ -442,7 +449,7 @@ module _ (cps : Cps) (p : Frames) (whole : IsWhole cps) (laid : IsLaidOut cps p)
   -- ---- the groups
 
   abbrev Good : Block → Type 0
-  Good b = GoodRest p b.ops.items b.last
+  Good b = GoodRest p w b.ops.items b.last
 
   pub block_named : (b : Block) → Good b → BlockNamesAreThere p b
   block_named b g = (

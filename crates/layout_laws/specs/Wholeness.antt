@@ -8,7 +8,10 @@ use Rattle.frame_ir.specs.declared.forms.Block.{Block}
 use Rattle.frame_ir.specs.Parts.{block_binds, arms_of, all_arms, all_targets, method_codes}
 use Rattle.frame_ir.specs.Whole.{IsTemplate, HasParams, IsMethodCount, HasPlaces, HasScopes, HasShapes, HasBlocks, IsWhole as IsWholeFrames}
 use Rattle.layout_relation.specs.Contexts.{Context, ArmOf}
-use Rattle.layout_relation.specs.Laid.{IsFor, IsLaidOut}
+use Rattle.frame_ir.specs.declared.forms.Place.TheVariants as At
+use Rattle.frame_ir.specs.declared.forms.FrameOp.{FrameOp}
+use Rattle.frame_ir.specs.declared.forms.FrameOp.TheVariants as Op
+use Rattle.layout_relation.specs.Laid.{AreDistinct, IsFor, IsLaidOut}
 
 -- The relation tells of the templates that objects name, and of these no more than that methods are found. What is owed of all of them:
 -- what they name is there, operations and codes go together, and a code has the object and the operands.
@@ -42,6 +45,21 @@ LaidOutHasBlocks = (cps : Cps) (p : Frames) → IsWhole cps → IsLaidOut cps p 
 
 abbrev pub LaidOutHasScopes : Type 0
 LaidOutHasScopes = (cps : Cps) (p : Frames) (laid : IsLaidOut cps p) → AreArms cps p laid → BindsOnce p → HasScopes p
+
+-- each closure that the frames make stands on the heap
+abbrev pub IsOnHeap : FrameOp → Type 0
+IsOnHeap (Op.Closure to code kept at) = at ≡ At.Heap
+IsOnHeap _ = Unit {0}
+
+abbrev pub AreOnHeap : Frames → Type 0
+AreOnHeap p = All (λ b. All IsOnHeap b.ops.items) p.blocks.items
+
+abbrev pub LaidOutIsOnHeap : Type 0
+LaidOutIsOnHeap = (cps : Cps) (p : Frames) → IsWhole cps → IsLaidOut cps p → AreOnHeap p
+
+-- where no two of the arms are one block, each is a block of one end alone, since no Jump goes to one
+abbrev pub DistinctArmsAreOwn : Type 0
+DistinctArmsAreOwn = (cps : Cps) (p : Frames) → IsWhole cps → IsLaidOut cps p → AreDistinct (all_arms p) → AreOwnArms p
 
 -- all of it
 pub record IsOwed (cps : Cps) (p : Frames) (laid : IsLaidOut cps p) : Type 0 where

@@ -1,7 +1,7 @@
 //! Laws of frames that lay out a program in continuation-passing style (`specs/Wholeness.antt`).
 #![tactic(auto)]
 
-ghost use Rattle.layout_laws.specs.Wholeness.{LaidOutHasPlaces, LaidOutHasShapes, LaidOutHasBlocks, LaidOutHasScopes, LaidOutIsWhole};
+ghost use Rattle.layout_laws.specs.Wholeness.{LaidOutHasPlaces, LaidOutHasShapes, LaidOutHasBlocks, LaidOutHasScopes, LaidOutIsOnHeap, DistinctArmsAreOwn, LaidOutIsWhole};
 
 /// What frames name that lay out a whole program is there.
 pub fn laid_out_has_places()
@@ -27,4 +27,14 @@ pub fn laid_out_has_scopes()
 /// Frames that lay out a whole program are whole, where what is owed beside the relation holds.
 pub fn laid_out_is_whole()
     ensures { LaidOutIsWhole }
+{}
+
+/// In frames that lay out a whole program each closure stands on the heap.
+pub fn laid_out_is_on_heap()
+    ensures { LaidOutIsOnHeap }
+{}
+
+/// In frames that lay out a whole program arms that differ are blocks of one end each.
+pub fn distinct_arms_are_own()
+    ensures { DistinctArmsAreOwn }
 {}

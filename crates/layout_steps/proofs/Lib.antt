@@ -1,3 +1,4 @@
 pub mod Preparing
 pub mod Handing
 pub mod Laying
+pub mod Methods

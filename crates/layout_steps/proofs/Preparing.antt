@@ -33,6 +33,8 @@ use Rattle.cps_ir.specs.declared.terms.Cont.{Cont}
 use Rattle.cps_ir.specs.declared.terms.Cont.TheVariants as Continuation
 use Rattle.layout_tables.proofs.Basics.{take_more}
 use Rattle.layout_tables.proofs.Growing.{later, grows_none, grows_more}
+use Rattle.layout_tables.specs.Additions.{Adds}
+use Rattle.layout_tables.proofs.Adding.{adds_none, adds_ops, adds_behind}
 
 -- ---- numbers apart
 
@@ -99,7 +101,7 @@ each_from n m ys le h = each_more (λ y. m ≤ y) (λ y. n ≤ y) ys (λ y a. om
 
 module _ (cps : Cps) (w : Tables) (vars : Scoped) where
   pub prepared_none : (old : Work) (ops : List FrameOp) → IsPrepared cps w vars old old [] ops ops []
-  prepared_none old ops = record { made = []; ops = sym (append-nil ops); grows = grows_none w old; from = tt; below = tt; prepares = λ ps ts f g. prepares_none }
+  prepared_none old ops = record { made = []; ops = sym (append-nil ops); grows = grows_none w old; adds = adds_none old; from = tt; below = tt; prepares = λ ps ts f g. prepares_none }
 
   pub prepared_join : (old mid new : Work) (as_ cs : List Arg) (one two three : List FrameOp) (bs ds : List Arg) → IsPrepared cps w vars old mid as_ one two bs → IsPrepared cps w vars mid new cs two three ds
       → IsPrepared cps w vars old new (as_ ++ cs) one three (bs ++ ds)
@@ -107,6 +109,7 @@ module _ (cps : Cps) (w : Tables) (vars : Scoped) where
     made = p.made ++ q.made;
     ops = q.ops ∙ ap (λ zs. zs ++ q.made) p.ops ∙ append_assoc one p.made q.made;
     grows = grows_more w old mid new p.grows q.grows;
+    adds = adds_ops old mid new p.made q.made p.adds q.adds;
     from = subst (AllByRecursion (λ y. old.next ≤ y)) (sym (made_by_join p.made q.made)) (each_append (λ y. old.next ≤ y) (made_by p.made) (made_by q.made) p.from (each_from old.next mid.next (made_by q.made) p.grows.next q.from));
     below = subst (AllByRecursion (λ y. y < new.next)) (sym (made_by_join p.made q.made)) (each_append (λ y. y < new.next) (made_by p.made) (made_by q.made) (each_less mid.next new.next (made_by p.made) q.grows.next p.below) q.below);
     prepares = λ ps ts f g. prepares_join cps (sketch_of w ps ts) vars mid.next as_ p.made bs cs q.made ds
@@ -114,14 +117,15 @@ module _ (cps : Cps) (w : Tables) (vars : Scoped) where
   }
 
   pub prepared_same : (old : Work) (a b : Arg) (ops : List FrameOp) → IsSameArg cps w vars a b → IsPrepared cps w vars old old (a ∷ []) ops ops (b ∷ [])
-  prepared_same old a b ops same = record { made = []; ops = sym (append-nil ops); grows = grows_none w old; from = tt; below = tt; prepares = λ ps ts f g. prepares_same a b [] [] [] (same ps ts) prepares_none }
+  prepared_same old a b ops same = record { made = []; ops = sym (append-nil ops); grows = grows_none w old; adds = adds_none old; from = tt; below = tt; prepares = λ ps ts f g. prepares_same a b [] [] [] (same ps ts) prepares_none }
 
-  pub prepared_closure : (old mid new : Work) (l : ℕ) (to : Var) (op : FrameOp) (one two : List FrameOp) → w.first ≡ first_lams cps → AreBelow old.next vars → Grows w old mid → to.0 ≡ old.next → mid.next ≡ old.next + 1
+  pub prepared_closure : (old mid new : Work) (l : ℕ) (to : Var) (op : FrameOp) (one two : List FrameOp) → w.first ≡ first_lams cps → AreBelow old.next vars → Grows w old mid → Adds old mid (to.0 ∷ []) [] → to.0 ≡ old.next → mid.next ≡ old.next + 1
       → MakesNew w vars mid new l to op → two ≡ one ++ op ∷ [] → IsPrepared cps w vars old new (Argument.Proc l ∷ []) one two (Argument.Var to ∷ [])
-  prepared_closure old mid new l to op one two first below grows e n m ops = record {
+  prepared_closure old mid new l to op one two first below grows adds e n m ops = record {
     made = Op.Closure to m.code m.kept At.Heap ∷ [];
     ops = ops ∙ ap (λ o. one ++ o ∷ []) m.is;
     grows = grows_more w old mid new grows m.grows;
+    adds = adds_behind old mid new (to.0 ∷ []) [] [] adds m.adds;
     from = (omega (arith, e), tt);
     below = ((let k = m.next in omega (arith, e, n, k)), tt);
     prepares = λ ps ts f g. prepares_closure l to m.code m.kept [] [] []
@@ -176,11 +180,11 @@ pub awaited_here : (w : Tables) (vars : Scoped) (a b : Around) (old new : Work) 
 awaited_here w vars a b old new k param body frame e same h = subst (λ j. IsAwaited w vars a old new j frame) (sym e) (by (subst (λ c. IsFrame w vars c old new param body frame) same h))
   where
     by : IsFrame w vars a old new param body frame → IsAwaited w vars a old new (Continuation.Lam param body) frame
-    by g = record { return = return_of w a param body; awaits = awaits_lam param body (needs_behind w param body); runs = g.runs; holds = g.holds; once = g.once; grows = g.grows; next = g.next }
+    by g = record { return = return_of w a param body; awaits = awaits_lam param body (needs_behind w param body); runs = g.runs; holds = g.holds; once = g.once; grows = g.grows; next = g.next; adds = g.adds }
 
 pub awaited_join : (w : Tables) (vars : Scoped) (a b : Around) (old new : Work) (k : Cont) (j : Var) (join : Join) (place : ℕ) (frame : Waiting) → k ≡ Continuation.Var j → IsWay w a j (To.Meets join place) → b ≡ record a { joins = drop (place + 1) a.joins }
     → IsFrame w vars b old new join.param join.body frame → IsAwaited w vars a old new k frame
 awaited_join w vars a b old new k j join place frame e way same h = subst (λ i. IsAwaited w vars a old new i frame) (sym e) (by (subst (λ c. IsFrame w vars c old new join.param join.body frame) same h))
   where
     by : IsFrame w vars (record a { joins = drop (place + 1) a.joins }) old new join.param join.body frame → IsAwaited w vars a old new (Continuation.Var j) frame
-    by g = record { return = return_of w (record a { joins = drop (place + 1) a.joins }) join.param join.body; awaits = awaits_join j (meeting_of w join) (exits_of w (drop (place + 1) a.joins) a.own) way; runs = g.runs; holds = g.holds; once = g.once; grows = g.grows; next = g.next }
+    by g = record { return = return_of w (record a { joins = drop (place + 1) a.joins }) join.param join.body; awaits = awaits_join j (meeting_of w join) (exits_of w (drop (place + 1) a.joins) a.own) way; runs = g.runs; holds = g.holds; once = g.once; grows = g.grows; next = g.next; adds = g.adds }

@@ -1,5 +1,5 @@
 -- What the parts of a block owe to the whole: closures, arguments, frames and jumps.
-use Rattle.std.specs.Prelude.{◌≡◌, ℕ, ◌+◌, ◌<◌, ◌≤◌, nat_lt, Bool, true, false, List, [], ◌∷◌, ◌++◌, length, slice_get, Option, Some, None}
+use Rattle.std.specs.Prelude.{◌≡◌, ℕ, ◌<◌, ◌≤◌, nat_lt, Bool, true, false, List, [], ◌∷◌, ◌++◌, length, slice_get, Option, Some, None}
 use Rattle.std.specs.List.{AllByRecursion}
 use Rattle.t_base.specs.declared.basics.Var.{Var}
 use Rattle.t_base.specs.declared.shared_parts.Shared.{Shared}
@@ -16,7 +16,8 @@ use Rattle.frame_ir.specs.declared.forms.FrameEnd.TheVariants as Last
 use Rattle.layout_tables.specs.declared.requests.Request.TheVariants as For
 use Rattle.frame_ir.specs.declared.forms.Template.{Template}
 use Rattle.frame_ir.specs.Arguments.{code_of_global}
-use Rattle.layout_relation.specs.Contexts.{Return, Leaves, exit_of, CodeOf, Resumes, Begins, ArmOf, Start, IsUnneeded, IsFresh, Purpose}
+use Rattle.layout_relation.specs.Links.{Zipped}
+use Rattle.layout_relation.specs.Contexts.{Return, Leaves, exit_of, CodeOf, MethodOf, Resumes, Begins, ArmOf, Start, IsUnneeded, IsFresh, Purpose}
 use Rattle.layout_relation.specs.Laid.{Sketch, IsFor, numbers, AreDistinct, AreHeld, SameArg, Prepares, Awaits, Gives, LaysTerm, made_by, most_needs, variables}
 use Rattle.layout_tables.specs.declared.tables.Tables.{Tables}
 use Rattle.layout_tables.specs.declared.requests.Work.{Work}
@@ -24,6 +25,8 @@ use Rattle.layout_tables.specs.declared.lines.Line.{Line}
 use Rattle.layout_tables.specs.declared.lines.Step.{Step}
 use Rattle.layout_steps.specs.declared.frames.Waiting.{Waiting}
 use Rattle.layout_tables.specs.Around.{Around}
+use Rattle.layout_tables.specs.Additions.{Adds, bound_by}
+use Rattle.frame_ir.specs.Parts.{arms_of}
 use Rattle.layout_tables.specs.Sketches.{Scoped, Ever, Grows, Leads, lam_needs, sketch_of, context_at, context_of, exits_at, catches_of, needs_behind, is_celled, rank_of}
 
 -- ---- closures and arguments
@@ -38,6 +41,7 @@ pub record MakesNew (w : Tables) (vars : Scoped) (old new : Work) (l : ℕ) (to 
   pub runs : Ever w new (λ v. IsFor v code (CodeOf l))
   pub grows : Grows w old new
   pub next : new.next ≡ old.next
+  pub adds : Adds old new [] []
 
 -- a global is there, and is a procedure or isn't
 abbrev pub HasCode : Shared → ℕ → Bool → Type 0
@@ -57,9 +61,17 @@ pub record IsPrepared (cps : Cps) (w : Tables) (vars : Scoped) (old new : Work) 
   pub made : List FrameOp
   pub ops : after ≡ before ++ made
   pub grows : Grows w old new
+  pub adds : Adds old new (bound_by made) []
   pub from : AllByRecursion (λ y. old.next ≤ y) (made_by made)
   pub below : AllByRecursion (λ y. y < new.next) (made_by made)
   pub prepares : Ever w new (λ v. Prepares cps v vars args made bs)
+
+-- the codes of methods of an object that keeps these variables
+pub record AreMethods (old new : Work) (methods : List ℕ) (needs : List Var) (codes : List ℕ) : Type 0 where
+  pub grows : (w : Tables) → Grows w old new
+  pub adds : Adds old new [] []
+  pub next : new.next ≡ old.next
+  pub run : (w : Tables) → Ever w new (λ v. Zipped (λ l code. IsFor v code (MethodOf l (numbers needs))) methods codes)
 
 -- ---- frames
 
@@ -79,6 +91,7 @@ pub record IsFrame (w : Tables) (vars : Scoped) (a : Around) (old new : Work) (p
   pub once : AreDistinct (numbers frame.kept)
   pub grows : Grows w old new
   pub next : new.next ≡ old.next
+  pub adds : Adds old new [] []
 
 -- the frame of a continuation that waits
 pub record IsAwaited (w : Tables) (vars : Scoped) (a : Around) (old new : Work) (k : Cont) (frame : Waiting) : Type 0 where
@@ -89,12 +102,14 @@ pub record IsAwaited (w : Tables) (vars : Scoped) (a : Around) (old new : Work) 
   pub once : AreDistinct (numbers frame.kept)
   pub grows : Grows w old new
   pub next : new.next ≡ old.next
+  pub adds : Adds old new [] []
 
 -- ---- what goes on
 
-pub record Ends (w : Tables) (old new : Work) (P : Sketch → Type 0) : Type 0 where
+pub record Ends (w : Tables) (old new : Work) (last : FrameEnd) (P : Sketch → Type 0) : Type 0 where
   pub grows : Grows w old new
   pub next : new.next ≡ old.next
+  pub adds : Adds old new [] (arms_of last)
   pub ever : Ever w new P
 
 -- where the variables are held that are needed behind a continuation, which is known at a site
@@ -122,9 +137,11 @@ pub record IsNewJump (cps : Cps) (w : Tables) (old new : Work) (vars : Scoped) (
   pub jumps : IsJumpTo cps w new vars a block param body value last
   pub grows : Grows w old new
   pub next : new.next ≡ old.next
+  pub adds : Adds old new [] []
 
-abbrev pub IsGiven : Cps → Tables → Work → Scoped → Around → Var → Arg → FrameEnd → Type 0
-IsGiven cps w k vars a j value last = Ever w k (λ v. (t : ℕ) → Gives cps v (context_at w vars a) t (Continuation.Var j) value [] last)
+pub record IsGiven (cps : Cps) (w : Tables) (k : Work) (vars : Scoped) (a : Around) (j : Var) (value : Arg) (last : FrameEnd) : Type 0 where
+  pub ever : Ever w k (λ v. (t : ℕ) → Gives cps v (context_at w vars a) t (Continuation.Var j) value [] last)
+  pub tests_nothing : arms_of last ≡ []
 
 abbrev pub held_also : Var → Option Var → Scoped → Scoped
 held_also param None vars = vars
@@ -139,8 +156,8 @@ pub record MayGoOn (w : Tables) (line : Line) (t : ℕ) (param : Var) (body : �
 pub record IsLaid (cps : Cps) (w : Tables) (old new : Work) (before after : Line) (t : ℕ) (term : Term) (step : Step) : Type 0 where
   pub made : List FrameOp
   pub ops : after.ops.items ≡ before.ops.items ++ made
-  pub leads : Leads w cps old new after (λ v ops last. LaysTerm cps v (context_of w before) t term (made ++ ops) last) step
+  pub leads : Leads w cps old new (bound_by made) after (λ v ops last. LaysTerm cps v (context_of w before) t term (made ++ ops) last) step
 
 -- an arm of an If
 abbrev pub IsArm : Work → Work → Scoped → Around → ℕ → ℕ → Type 0
-IsArm old new vars a t block = (w : Tables) → (Grows w old new × (new.next ≡ old.next)) × Ever w new (λ v. IsFor v block (ArmOf (context_at w vars a) t))
+IsArm old new vars a t block = Adds old new [] (block ∷ []) × ((w : Tables) → (Grows w old new × (new.next ≡ old.next)) × Ever w new (λ v. IsFor v block (ArmOf (context_at w vars a) t)))

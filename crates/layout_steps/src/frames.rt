@@ -29,7 +29,7 @@ pub(crate) fn tail(site: &Site, k: Cont) -> Option<Var>
     }
 }
 
-/// The frame of a continuation with this parameter and body, which is known at a site.
+/// The frame of a continuation with this parameter and body, which is known at a site, and the block of its Join if it is a Join's.
 fn frame(
     alloc: Global,
     tables: &Tables,
@@ -38,6 +38,7 @@ fn frame(
     param: Var,
     body: u32,
     site: Site,
+    join: Option<u32>,
 ) -> Result<Waiting, Memory>
     ensures { IfOk result (IsFrame tables.now scope.now site work.old work.new param body) }
 {
@@ -46,7 +47,12 @@ fn frame(
     if !are_distinct(&kept) {
         return Err(Memory);
     }
-    let back = work.request(Request::Resumes { param, body, site })?;
+    let back = work.request(Request::Resumes {
+        param,
+        body,
+        site,
+        join,
+    })?;
     Ok(Waiting {
         kept: Vars::from_vec(kept),
         back,
@@ -67,13 +73,13 @@ pub(crate) fn await_return(
     match k {
         Cont::Lam { param, body } => {
             let same = site.copy(alloc)?;
-            let waiting = frame(alloc, tables, work, scope, param, body, same)?;
+            let waiting = frame(alloc, tables, work, scope, param, body, same, None)?;
             Ok(waiting)
         }
         Cont::Var(j) => match site.way(j) {
             Way::Meets { join, place } => {
                 let outside = site.outside(alloc, place)?;
-                let waiting = frame(alloc, tables, work, scope, join.param, join.body, outside)?;
+                let waiting = frame(alloc, tables, work, scope, join.param, join.body, outside, Some(join.block))?;
                 Ok(waiting)
             }
             Way::Leaves | Way::Nowhere => Err(Memory),

@@ -226,7 +226,7 @@ pub(crate) fn give_new(
 ) -> Result<Step, Memory>
     requires below { AreBelow work.old.next line.old.scope }
     requires new { to.0 < work.old.next }
-    ensures leads { IfOk result (Leads tables.now cps.now work.old work.new line.new (λ v ops last. Gives cps.now v (context_of tables.now line.old) term k (Argument.Var to) ops last)) }
+    ensures leads { IfOk result (Leads tables.now cps.now work.old work.new [] line.new (λ v ops last. Gives cps.now v (context_of tables.now line.old) term k (Argument.Var to) ops last)) }
     ensures same { line.new.ops ≡ line.old.ops }
 {
     match k {
@@ -262,7 +262,7 @@ pub(crate) fn give_value(
     value: Arg,
 ) -> Result<Step, Memory>
     requires { AreBelow work.old.next line.old.scope }
-    ensures leads { IfOk result (Leads tables.now cps.now work.old work.new line.new (λ v ops last. Gives cps.now v (context_of tables.now line.old) term k value ops last)) }
+    ensures leads { IfOk result (Leads tables.now cps.now work.old work.new [] line.new (λ v ops last. Gives cps.now v (context_of tables.now line.old) term k value ops last)) }
     ensures same { line.new.ops ≡ line.old.ops }
 {
     match k {
@@ -302,7 +302,7 @@ pub(crate) fn give_away(
     k: Cont,
     value: Arg,
 ) -> Result<FrameEnd, Memory>
-    ensures { IfOk result (λ last. Ends tables.now work.old work.new (λ v. (t : ℕ) → Gives cps.now v (context_at tables.now scope.now site.now) t k value [] last)) }
+    ensures { IfOk result (λ last. Ends tables.now work.old work.new last (λ v. (t : ℕ) → Gives cps.now v (context_at tables.now scope.now site.now) t k value [] last)) }
 {
     match k {
         Cont::Lam { param, body } => {
@@ -326,7 +326,7 @@ pub fn go_to(
     site: &Site,
     term: u32,
 ) -> Result<FrameEnd, Memory>
-    ensures { IfOk result (λ last. Ends tables.now work.old work.new (λ v. GoesOn cps.now v (context_at tables.now scope.now site.now) term [] last)) }
+    ensures { IfOk result (λ last. Ends tables.now work.old work.new last (λ v. GoesOn cps.now v (context_at tables.now scope.now site.now) term [] last)) }
 {
     let needs = term_needs(tables, term);
     let ats = find_all(alloc, scope, needs)?;
@@ -340,6 +340,32 @@ pub fn go_to(
         site: same,
         term,
     })?;
+    let last = jump(alloc, block, &ats)?;
+    Ok(last)
+}
+
+/// Goes on in the block of a Join, which was asked for, with its parameter and what is needed behind it.
+pub fn go_to_join(
+    alloc: Global,
+    cps: &Cps,
+    tables: &Tables,
+    work: &Work,
+    scope: &Scope,
+    site: &Site,
+    param: Var,
+    body: u32,
+    block: u32,
+) -> Result<FrameEnd, Memory>
+    ensures { IfOk result (λ last. Ends tables.now work.now work.now last (λ v. GoesOn cps.now v (context_at tables.now scope.now site.now) body [] last)) }
+{
+    let vars = begin_with(alloc, tables, param, body)?;
+    let ats = find_all(alloc, scope, vars.as_slice())?;
+    if !are_few(cps, ats.len().saturating_sub(1)) {
+        return Err(Memory);
+    }
+    if !is_asked_for(work, block, &vars, site, body) {
+        return Err(Memory);
+    }
     let last = jump(alloc, block, &ats)?;
     Ok(last)
 }

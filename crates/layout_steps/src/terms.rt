@@ -141,6 +141,7 @@ pub fn lay_if(
 
 /// Asks for an arm.
 fn arm(alloc: Global, work: &mut Work, scope: &Scope, site: &Site, term: u32) -> Result<u32, Memory>
+    requires { AreBelow work.old.next scope.now }
     ensures { IfOk result (IsArm work.old work.new scope.now site.now term) }
 {
     let scope = scope.copy(alloc)?;

@@ -24,6 +24,7 @@ use Rattle.layout_tables.specs.declared.lines.Line.{Line}
 use Rattle.layout_tables.specs.declared.lines.Step.{Step}
 use Rattle.layout_tables.specs.declared.lines.Step.TheVariants.{Next, Done}
 use Rattle.layout_tables.specs.Around.{Around}
+use Rattle.layout_tables.specs.Additions.{Adds, arms_by}
 
 -- ---- tables
 
@@ -115,7 +116,7 @@ purpose_of w (For.MethodOf l kept) = MethodOf l (numbers kept)
 purpose_of w (For.Begins vars site term) = Begins (record { vars = numbers vars; exits = exits_at w site; catches = catches_of site; term = term })
 purpose_of w (For.ArmOf vars site term) = ArmOf (context_at w vars site) term
 purpose_of w For.PassesOn = PassesOn
-purpose_of w (For.Resumes param body site) = Resumes (record { kept = needs_behind w param body; param = param.0; body = body; exits = exits_at w site; catches = catches_of site })
+purpose_of w (For.Resumes param body site join) = Resumes (record { kept = needs_behind w param body; param = param.0; body = body; exits = exits_at w site; catches = catches_of site })
 
 abbrev pub purposes_of : Tables → List Request → List Purpose
 purposes_of w requests = map (purpose_of w) requests
@@ -144,8 +145,10 @@ abbrev pub Reaches : Tables → Cps → Work → Line → (Sketch → List Frame
 Reaches w cps k line P (Next t) = Ever w k (λ v. (ops : List FrameOp) (last : FrameEnd) → Lays cps v (context_of w line) t ops last → P v ops last)
 Reaches w cps k line P (Done last) = Ever w k (λ v. P v [] last)
 
-pub record Leads (w : Tables) (cps : Cps) (old new : Work) (line : Line) (P : Sketch → List FrameOp → FrameEnd → Type 0) (step : Step) : Type 0 where
+-- `binds` are the variables that are bound on the way
+pub record Leads (w : Tables) (cps : Cps) (old new : Work) (binds : List ℕ) (line : Line) (P : Sketch → List FrameOp → FrameEnd → Type 0) (step : Step) : Type 0 where
   pub grows : Grows w old new
+  pub adds : Adds old new binds (arms_by step)
   pub below : AreBelow new.next line.scope
   pub reaches : Reaches w cps new line P step
 

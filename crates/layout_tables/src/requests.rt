@@ -22,8 +22,14 @@ pub enum Request {
     ArmOf { scope: Scope, site: Site, term: u32 },
     /// The block of a CATCH in a tail place, which returns the value.
     PassesOn,
-    /// The block to which a call returns, with the parameter and the body of its continuation.
-    Resumes { param: Var, body: u32, site: Site },
+    /// The block to which a call returns, with the parameter and the body of its continuation. Where this is a Join's, the block of the
+    /// Join lays out the body, and this one goes on there.
+    Resumes {
+        param: Var,
+        body: u32,
+        site: Site,
+        join: Option<u32>,
+    },
 }
 
 /// The blocks that are asked for so far, in order, the templates of objects, and the number of the next variable of the frames.
@@ -47,6 +53,20 @@ impl Work {
         };
         self.requests.push(request)?;
         Ok(block)
+    }
+
+    /// One more template, and its place.
+    pub fn template(&mut self, template: Template) -> Result<u32, Memory>
+        ensures templates { OnOk result (self.new.templates.items ≡ self.old.templates.items ++ template ∷ []) }
+        ensures place { IfOk result (λ place. place ≡ length self.old.templates.items) }
+        ensures requests { self.new.requests ≡ self.old.requests }
+        ensures next { self.new.next ≡ self.old.next }
+    {
+        let Ok(place) = u32::try_from(self.templates.len()) else {
+            return Err(Memory);
+        };
+        self.templates.push(template)?;
+        Ok(place)
     }
 
     /// A new variable.
@@ -116,12 +136,18 @@ pub fn copy_request(alloc: Global, request: &Request) -> Result<Request, Memory>
             })
         }
         Request::PassesOn => Ok(Request::PassesOn),
-        Request::Resumes { param, body, site } => {
+        Request::Resumes {
+            param,
+            body,
+            site,
+            join,
+        } => {
             let site = site.copy(alloc)?;
             Ok(Request::Resumes {
                 param: *param,
                 body: *body,
                 site,
+                join: *join,
             })
         }
     }

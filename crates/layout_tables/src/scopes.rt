@@ -4,7 +4,7 @@ ghost use Rattle.cps_ir.specs.Reaches.{is_in};
 ghost use Rattle.layout_relation.specs.Links.{IsIn};
 ghost use Rattle.layout_relation.specs.Contexts.{paired};
 ghost use Rattle.layout_relation.specs.Laid.{numbers, AreHeld, AreDistinct};
-ghost use Rattle.layout_tables.specs.Sketches.{IsNotHeld, AreBelow};
+ghost use Rattle.layout_tables.specs.Sketches.{IsNotHeld};
 
 use std::alloc::Global;
 use std::marker::Model;
@@ -79,18 +79,6 @@ impl Scope {
     {
         for held in &self.items {
             if held.var.0 == var.0 {
-                return false;
-            }
-        }
-        true
-    }
-
-    /// Whether each variable of the frames is below a number.
-    pub fn is_below(&self, next: u32) -> bool
-        ensures { IsTrue result → AreBelow next self.now }
-    {
-        for held in &self.items {
-            if held.at.0 >= next {
                 return false;
             }
         }

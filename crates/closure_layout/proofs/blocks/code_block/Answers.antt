@@ -6,6 +6,7 @@ use Rattle.layout_tables.specs.Sketches.{Ever, purpose_of}
 use Rattle.closure_layout.specs.Blocks.{IsFetched}
 use Rattle.layout_tables.proofs.Growing.{grows_asked, asked}
 use Rattle.closure_layout.proofs.Walking.{code_fits, opened_below, item_there}
+use Rattle.layout_tables.proofs.Adding.{adds_asked}
 use Rattle.closure_layout.proofs.blocks.code_block.Goals as goal
 
 pub fetch_all-requires : goal.fetch_all-requires
@@ -29,6 +30,7 @@ returns c =
     (c.in_ok-vars.ensures ∙ ap (λ xs. xs ++ c.lam_needs-needs.result.now) c.as_slice.ensures)
     (subst (λ xs. AreHeld c.fetch_all.new.scope (numbers xs) c.in_ok-ats.ats.items) c.as_slice-2.ensures c.in_ok-ats.ensures)
     (grows_asked w three new (For.Begins vars site lam.body) c.in_ok-block.ensures.requests c.in_ok-block.ensures.templates c.in_ok-block.ensures.next)
+    (adds_asked three new (For.Begins vars site lam.body) c.in_ok-block.ensures.requests c.in_ok-block.ensures.next tt)
     (subst (λ s. Ever w new (λ v. IsFor v block (purpose_of w (For.Begins vars s lam.body)))) c.new.ensures (asked w three new (For.Begins vars site lam.body) block c.in_ok-block.ensures.requests c.in_ok-block.ensures.place))
     (c.in_ok-last.ensures ∙ ap (λ xs. Last.Jump block (variables xs)) c.deref-2.ensures.value)
     (c.from_vec.ensures ∙ c.in_ok-extend_from_slice.ensures.items ∙ ap (λ zs. zs ++ c.as_slice-3.result.now) (c.in_ok-push.ensures.items ∙ ap (λ zs. zs ++ own ∷ []) c.new-params.ensures.items) ∙ ap (λ zs. own ∷ zs) c.as_slice-3.ensures)

@@ -19,7 +19,8 @@ returns c =
     let places = c.as_slice-places.ensures in
     let tos = c.in_ok-tos.tos.items in
     laid_labels c.args.cps.now w old c.variables.new.self c.push_closures.new.work c.go_to.new.work before (record { ops = c.push_closures.new.ops; scope = c.hold_all.new.self; site = c.args.line.now.site }) c.args.term c.args.body c.args.vars.now c.args.lams.now tos c.in_ok-last.last
-    c.requires.first c.requires.below (sym (ap length names) ∙ c.if-names-places.false ∙ ap length places) (subst (MayName w before.scope before.site) names (c.if-not-may_name.ensures refl)) (subst (λ ns. AreDistinct (numbers ns)) names (c.if-not-are_distinct.ensures refl))
+    c.requires.first c.requires.below (sym (ap length names) ∙ c.if-names-places.false ∙ ap length places)
+    (new_length old.next (length c.as_slice-places.result.now) tos c.in_ok-tos.ensures.variables ∙ ap length places) (subst (MayName w before.scope before.site) names (c.if-not-may_name.ensures refl)) (subst (λ ns. AreDistinct (numbers ns)) names (c.if-not-are_distinct.ensures refl))
     (subst (λ n. n < rank_of w c.args.term) c.rank_of.ensures (subst (λ n. c.rank_of.result < n) c.rank_of-2.ensures c.if-rank_of.false))
     (c.in_ok-tos.ensures.variables ∙ ap (counted old.next) (ap length places)) (c.in_ok-tos.ensures.next ∙ ap (λ n. old.next + n) (ap length places)) c.variables.ensures.requests c.variables.ensures.templates
     (c.in_ok-hold_all.ensures ∙ ap (λ ns. paired (numbers ns) c.deref.result.now ++ before.scope) names ∙ ap (λ ys. paired (numbers c.args.vars.now) ys ++ before.scope) c.deref.ensures.value)

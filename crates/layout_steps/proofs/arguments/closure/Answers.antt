@@ -3,6 +3,7 @@ use Rattle.layout_steps.proofs.Preparing.{not_less}
 use Rattle.layout_relation.specs.Laid.{AreHeld}
 use Rattle.layout_tables.specs.declared.requests.Request.TheVariants as For
 use Rattle.layout_tables.proofs.Growing.{grows_asked, asked}
+use Rattle.layout_tables.proofs.Adding.{adds_asked}
 use Rattle.layout_steps.proofs.arguments.closure.Goals as goal
 
 pub returns : goal.returns
@@ -15,4 +16,5 @@ returns c = record {
   runs = asked c.args.tables.now c.args.work.now c.request.new.self (For.CodeOf c.args.l) c.in_ok-code.code c.in_ok-code.ensures.requests c.in_ok-code.ensures.place;
   grows = grows_asked c.args.tables.now c.args.work.now c.request.new.self (For.CodeOf c.args.l) c.in_ok-code.ensures.requests c.in_ok-code.ensures.templates c.in_ok-code.ensures.next;
   next = c.in_ok-code.ensures.next;
+  adds = adds_asked c.args.work.now c.request.new.self (For.CodeOf c.args.l) c.in_ok-code.ensures.requests c.in_ok-code.ensures.next tt;
 }

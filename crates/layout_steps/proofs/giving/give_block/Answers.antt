@@ -4,6 +4,7 @@ use Rattle.layout_relation.specs.Laid.{variables}
 use Rattle.layout_tables.specs.declared.requests.Request.TheVariants as For
 use Rattle.layout_tables.proofs.Growing.{asked, grows_asked}
 use Rattle.layout_steps.proofs.Handing.{begins_new}
+use Rattle.layout_tables.proofs.Adding.{adds_asked}
 use Rattle.layout_steps.proofs.giving.give_block.Goals as goal
 
 pub returns : goal.returns
@@ -18,4 +19,5 @@ returns c = record {
   };
   grows = grows_asked c.args.tables.now c.args.work.now c.request.new.self (For.Begins c.in_ok-vars.vars c.in_ok-same.same c.args.body) c.in_ok-block.ensures.requests c.in_ok-block.ensures.templates c.in_ok-block.ensures.next;
   next = c.in_ok-block.ensures.next;
+  adds = adds_asked c.args.work.now c.request.new.self (For.Begins c.in_ok-vars.vars c.in_ok-same.same c.args.body) c.in_ok-block.ensures.requests c.in_ok-block.ensures.next tt;
 }
