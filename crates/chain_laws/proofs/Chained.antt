@@ -1,5 +1,5 @@
 -- Forms that are in the relations of the passes make a chain of what these promise.
-use Rattle.std.proofs.Common.{◌≡◌, Bool, true, List, All, refl, sym, subst}
+use Rattle.std.proofs.Common.{◌≡◌, true, All, refl, sym, subst}
 use Rattle.std.proofs.lemmas.List.Elements.{All-weaker}
 use Rattle.std.proofs.lemmas.List.Sums.{list_all-from_AllPass}
 use Rattle.std.specs.List.{list_all}

@@ -25,12 +25,12 @@ pub emitted_is_kept : EmittedKeeps → EmittedIsKept
 emitted_is_kept keeps words placed a serves emitted bytes can sizes are safe =
     alike_with_more 13 0 13 13 (placed_run placed (word_sizes sizes)) (items_run placed.words a sizes) (omega arith) (omega arith)
     (keeps (assembly_of placed a can) placed sizes.heap sizes.stack
-     (record {
-       whole = serves.whole;
-       emitted = emitted;
-       bytes = bytes;
-       names = refl;
-       no_stack_homes = λ k n e. outside_at placed.at.items k n e serves.outside;
-       heap_is = are.heap;
-       stack_is = are.stack;
-     }) safe)
+    (record {
+      whole = serves.whole;
+      emitted = emitted;
+      bytes = bytes;
+      names = refl;
+      no_stack_homes = λ k n e. outside_at placed.at.items k n e serves.outside;
+      heap_is = are.heap;
+      stack_is = are.stack;
+    }) safe)

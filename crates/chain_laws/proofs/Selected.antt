@@ -1,12 +1,9 @@
 -- Selection at sizes that a run may have.
-use Rattle.std.proofs.Common.{◌≡◌, ℕ, ◌+◌, ◌%◌, ◌^◌, ◌≤◌, ◌&&◌, Bool, true, false, ◌==◌, refl, arith}
+use Rattle.std.proofs.Common.{◌≡◌, ℕ, ◌%◌, ◌^◌, ◌≤◌, ◌&&◌, Bool, true, false, ◌==◌, refl, arith}
 use Rattle.std.specs.Prelude.{nat_le}
 use Rattle.std.proofs.lemmas.Bool.{eqb-true, leb-true}
-use Rattle.program_runs.specs.Keeps.{KeepsWithin, IsSafe}
 use Rattle.program_runs.proofs.Weaken.{within_with_more, safe_never_broken}
-use Rattle.frame_ir.specs.declared.forms.Frames.{Frames}
 use Rattle.frame_ir.specs.Running.{run}
-use Rattle.word_ir.specs.declared.words.Words.{Words}
 use Rattle.word_ir.specs.Step.{words_run}
 use Rattle.m68020_step.specs.declared.machine.Sizes.{Sizes}
 use Rattle.m68020_step.specs.Boot.{is_size}
