@@ -1,19 +1,14 @@
 -- From what the parts of a command come to, to what it comes to.
-use Rattle.std.proofs.Common.{◌≡◌, ℕ, Bool, true, false, List, Option, Some, None, refl, sym, ap, ◌∙◌, subst, inl, inr, ⊎_elim}
-use Rattle.std.specs.Prelude.{option_map}
+use Rattle.std.proofs.Common.{◌≡◌, ℕ, true, false, List, Option, Some, None, refl, sym, ap, ◌∙◌, subst, inl, inr, ⊎_elim}
 use Rattle.t_ports.specs.declared.ports.Folder.{Ghosts as FolderOf}
 use Rattle.t_ports.specs.declared.ports.Sink.{Ghosts as SinkOf}
 use Rattle.t_ports.specs.Causes.{Rose}
 use Rattle.t_ports.specs.Files.{Files, IfBothTold, IsSame, Puts}
-use Rattle.program_runs.specs.Runs.{End, Full, Broken, IsProper}
 use Rattle.t_core.specs.declared.forms.UnitCore.{UnitCore}
-use Rattle.image_file.specs.Grammar.{Parts, IsImageOf}
-use Rattle.image_file.proofs.Laws.{one_image}
 use Rattle.orbit_build.proofs.FullRuns.{never_stops, full_for}
 use Rattle.machine_services.specs.declared.exit.Exit.{Exit}
 use Rattle.machine_services.specs.declared.exit.Exit.TheVariants as exit
 use Rattle.orbit_monitor.specs.Run.{run}
-use Rattle.machine_services.specs.Observed.{end_of}
 use Rattle.orbit_monitor.specs.Answering.{Loaded}
 use Rattle.orbit_cli.specs.declared.prepare.Counts.{Counts}
 use Rattle.orbit_cli.specs.declared.words.Bounds.{Bounds}
@@ -25,7 +20,7 @@ use Rattle.orbit_cli.specs.Lines.{counts_line}
 use Rattle.orbit_cli.specs.Answer.{Answer, answer, answer_on, listing_answer, most_nodes, counts_answer, printed, end_status}
 use Rattle.orbit_cli.specs.Changes.{Change, change, IsIdle, Says, IsUnchanged, Keeps}
 use Rattle.orbit_cli.specs.Command.{AreSizes}
-use Rattle.orbit_cli.specs.Outcome.{IsCompiled, CompileOutcome, OfCore, CheckOutcome, IsAnswered, IsUnwritten, IsRun, RunOutcome, ListOutcome, IsKeptAndRun, IsKeptAndFull, GoOutcome}
+use Rattle.orbit_cli.specs.Outcome.{IsCompiled, CompileOutcome, OfCore, CheckOutcome, IsAnswered, IsUnwritten, IsRun, RunOutcome, ListOutcome, IsKeptAndRun, GoOutcome}
 use Rattle.orbit_cli.specs.Parts.{refusal_line, refusal_status, CompileCause, CheckCause, ImageCause, KeepCause, IsTranslated, IsFetchedCounts, IsFetchedProgram, IsFetchedListing, IsProgram, Reports}
 
 -- ---- folders
