@@ -30,7 +30,7 @@ every_core cores text bytes faithful unit core =
     record {
       image = faithful.image;
       spelled = faithful.spelled;
-      keeps = λ sizes heap stack. subst (λ (n : ℕ). KeepsWithin (room_at sizes n) factor factor (meaning_at_most unit) (observed faithful.image sizes)) (text_counts text faithful.unit unit faithful.core core).size
-          (keeps_same (room_of faithful.unit sizes) factor factor (meaning_at_most faithful.unit) (meaning_at_most unit) (observed faithful.image sizes) same.at_most (faithful.keeps sizes heap stack));
-      never_full = faithful.never_full;
+      keeps = λ sizes heap stack. subst (λ (n : ℕ). KeepsWithin (room_at sizes n) (factor n) (factor n) (meaning_at_most unit) (observed faithful.image sizes)) (text_counts text faithful.unit unit faithful.core core).size
+          (keeps_same (room_of faithful.unit sizes) (factor faithful.unit.shared.size) (factor faithful.unit.shared.size) (meaning_at_most faithful.unit) (meaning_at_most unit) (observed faithful.image sizes) same.at_most (faithful.keeps sizes heap stack));
+      tells = faithful.tells;
     }

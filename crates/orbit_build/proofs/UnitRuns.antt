@@ -10,6 +10,7 @@ use Rattle.program_runs.specs.Runs as runs
 use Rattle.program_runs.specs.Keeps.{Room, KeepsWithin}
 use Rattle.program_runs.proofs.Follow.{one_end, steady_goes_on}
 use Rattle.program_runs.proofs.Prefixes.{prefix_of_eq}
+use Rattle.program_runs.proofs.Weaken.{within_with_more}
 use Rattle.m68020_code.specs.declared.instr.Instr.TheVariants.{Trap}
 use Rattle.m68020_code.specs.Table.{spelling}
 use Rattle.m68020_step.specs.declared.registers.Registers.{Registers}
@@ -37,7 +38,7 @@ use Rattle.orbit_build.specs.Sums.{most_open, Term, HasFixnums, AreTerms}
 use Rattle.orbit_build.proofs.Evaluation.{Outcome, Value, Faulted, Counters, Evaluation, whole, Progress, reached, counted, continued, whole_run, top, fresh}
 use Rattle.orbit_build.proofs.Meanings.{seen, meaning_whole}
 use Rattle.orbit_build.specs.Code.{empty_list, term_code, terms_code, unit_code, statics_bytes, image_of}
-use Rattle.orbit_build.specs.Faithful.{factor, room_of, KeepsMeaning, NeverFull}
+use Rattle.orbit_build.specs.Faithful.{factor, room_of, KeepsMeaning, TellsRoom}
 use Rattle.orbit_build.proofs.Words.{face_word}
 use Rattle.orbit_build.proofs.Runs.{Finishes, with_registers, finishes_one, finishes_on}
 use Rattle.orbit_build.proofs.Sums.{Fit, Ending}
@@ -215,7 +216,7 @@ module _ (unit : UnitCore) (escapes : Marking) (ts : List Term) (are : AreTerms 
   pub proper_end : (k : ℕ) (e : End) → (b k).end ≡ Some e → IsProper e
   proper_end k e q = subst IsProper (the_end k e q) comes.proper
 
-  pub keeps_within : (room : Room) → KeepsWithin room factor factor (meaning unit escapes) (observed (image_of ts) sizes)
+  pub keeps_within : (room : Room) → KeepsWithin room 8 8 (meaning unit escapes) (observed (image_of ts) sizes)
   keeps_within room = record {
     ends_only = λ k e q.
         inl (proper_end k e q, (top ts, record { ended = meant_end ∙ ap (λ (d : End). Some d) (the_end k e q); output = silent (top ts) ∙ sym (quiet k).output }));
@@ -231,8 +232,15 @@ module _ (unit : UnitCore) (escapes : Marking) (ts : List Term) (are : AreTerms 
     waiting = λ k. (0, omega arith);
   }
 
-pub keeps_meaning : (unit : UnitCore) (ts : List Term) → AreTerms unit.forms.items ts → AreSmall ts → length (unit_code ts) ≤ 2 ^ 28 → KeepsMeaning unit (image_of ts)
-keeps_meaning unit ts are h small sizes heap stack = keeps_within unit all_escape ts are sizes h small (room_of unit sizes)
+eight_within : (n : ℕ) → 8 ≤ 10467 * (n + 8)
+eight_within n = omega arith
 
-pub never_full : (unit : UnitCore) (ts : List Term) → AreTerms unit.forms.items ts → AreSmall ts → length (unit_code ts) ≤ 2 ^ 28 → NeverFull (image_of ts)
-never_full unit ts are h small sizes heap stack = proper_end unit all_escape ts are sizes h small
+pub keeps_meaning : (unit : UnitCore) (ts : List Term) → AreTerms unit.forms.items ts → AreSmall ts → length (unit_code ts) ≤ 2 ^ 28 → KeepsMeaning unit (image_of ts)
+keeps_meaning unit ts are h small sizes heap stack =
+    within_with_more (room_of unit sizes) 8 8 (factor unit.shared.size) (factor unit.shared.size) (meaning unit all_escape) (observed (image_of ts) sizes) (eight_within unit.shared.size) (eight_within unit.shared.size)
+    (keeps_within unit all_escape ts are sizes h small (room_of unit sizes))
+
+-- It is never full.
+pub tells_room : (unit : UnitCore) (ts : List Term) → AreTerms unit.forms.items ts → AreSmall ts → length (unit_code ts) ≤ 2 ^ 28 → TellsRoom (image_of ts)
+tells_room unit ts are h small sizes heap stack k region asked left e =
+    absurd (proper_end unit all_escape ts are sizes h small k (runs.Full region asked left) (ap (option_map (end_of [])) e))

@@ -2,4 +2,5 @@ pub mod Sums
 pub mod Code
 pub mod Tasks
 pub mod Faithful
+pub mod Full
 pub mod Faults

@@ -1,19 +1,14 @@
 -- From what the parts of a command come to, to what it comes to.
-use Rattle.std.proofs.Common.{◌≡◌, ℕ, Bool, true, false, List, Option, Some, None, refl, sym, ap, ◌∙◌, subst, inl, inr, ⊎_elim}
-use Rattle.std.specs.Prelude.{option_map}
+use Rattle.std.proofs.Common.{◌≡◌, ℕ, true, false, List, Option, Some, None, refl, sym, ap, ◌∙◌, subst, inl, inr, ⊎_elim}
 use Rattle.t_ports.specs.declared.ports.Folder.{Ghosts as FolderOf}
 use Rattle.t_ports.specs.declared.ports.Sink.{Ghosts as SinkOf}
 use Rattle.t_ports.specs.Causes.{Rose}
 use Rattle.t_ports.specs.Files.{Files, IfBothTold, IsSame, Puts}
-use Rattle.program_runs.specs.Runs.{End, Full, Broken, IsProper}
 use Rattle.t_core.specs.declared.forms.UnitCore.{UnitCore}
-use Rattle.image_file.specs.Grammar.{Parts, IsImageOf}
-use Rattle.image_file.proofs.Laws.{one_image}
-use Rattle.orbit_build.specs.Faithful.{Faithful, NeverFull}
+use Rattle.orbit_build.proofs.FullRuns.{never_stops, full_for}
 use Rattle.machine_services.specs.declared.exit.Exit.{Exit}
 use Rattle.machine_services.specs.declared.exit.Exit.TheVariants as exit
 use Rattle.orbit_monitor.specs.Run.{run}
-use Rattle.machine_services.specs.Observed.{end_of}
 use Rattle.orbit_monitor.specs.Answering.{Loaded}
 use Rattle.orbit_cli.specs.declared.prepare.Counts.{Counts}
 use Rattle.orbit_cli.specs.declared.words.Bounds.{Bounds}
@@ -100,37 +95,6 @@ by_end P done fault heap stack limit stop (Some (exit.Full true asked left)) = s
 by_end P done fault heap stack limit stop (Some (exit.Full false asked left)) = heap
 by_end P done fault heap stack limit stop (Some (exit.Stop why at)) = stop
 by_end P done fault heap stack limit stop None = limit
-
--- a status of a run that was ended by a value or a fault, or not at all
-abbrev is_proper : Status → Bool
-is_proper status.Done = true
-is_proper status.SourceFault = true
-is_proper status.StepLimit = true
-is_proper _ = false
-
--- the run has ended, neither by a value nor by a fault
-record EndsOtherwise (names : List (List ℕ)) (o : Option Exit) : Type 0 where
-  end : End
-  ended : option_map (end_of names) o ≡ Some end
-  otherwise : IsProper end → ⊥
-
-no_truth : true ≡ false → ⊥
-no_truth e = cc
-
-ends_otherwise : (names : List (List ℕ)) (o : Option Exit) (s : Status) → end_status o ≡ s → is_proper s ≡ false → EndsOtherwise names o
-ends_otherwise names (Some (exit.Done face)) s e h = absurd (no_truth (ap is_proper e ∙ h))
-ends_otherwise names (Some (exit.Fault x)) s e h = absurd (no_truth (ap is_proper e ∙ h))
-ends_otherwise names (Some (exit.Full stack asked left)) s e h = record { end = Full stack asked left; ended = refl; otherwise = λ p. p }
-ends_otherwise names (Some (exit.Stop why at)) s e h = record { end = Broken; ended = refl; otherwise = λ p. p }
-ends_otherwise names None s e h = absurd (no_truth (ap is_proper e ∙ h))
-
--- the image of a text neither stops nor fills heap or stack
-never_otherwise : (text bytes : List ℕ) (image : Parts) (bounds : Bounds) (s : Status) → Faithful text bytes → IsImageOf bytes image → AreSizes bounds.sizes → is_proper s ≡ false → (answer image bounds.sizes bounds.steps).status ≡ s → ⊥
-never_otherwise text bytes image bounds s faithful spelled sized improper e =
-    let same : faithful.image ≡ image = one_image bytes faithful.image image faithful.spelled spelled in
-    let never : NeverFull image = subst (λ (p : Parts). NeverFull p) same faithful.never_full in
-    let x = ends_otherwise image.names (run image bounds.sizes bounds.steps).end s e improper in
-    x.otherwise (never bounds.sizes sized.heap sized.stack bounds.steps x.end x.ended)
 
 module _ {F S E : Type 0} (f : FolderOf F) (o : SinkOf S) (e : SinkOf E) (folder : Change F) (out : Change S) (err : Change E) where
   -- ---- run
@@ -272,12 +236,21 @@ module _ {F S E : Type 0} (f : FolderOf F) (o : SinkOf S) (e : SinkOf E) (folder
       abbrev GoesTo : Status → Type 0
       GoesTo s = IsAnswered o e out err (answer h.image bounds.sizes bounds.steps) s → GoOutcome f o e folder out err src img bounds s
 
-      never : (s : Status) → is_proper s ≡ false → IsAnswered o e out err (answer h.image bounds.sizes bounds.steps) s → ⊥
-      never s improper a = never_otherwise compiled.text bytes h.image bounds s compiled.faithful h.spelled sized improper a.status_is
+      -- by how the run has ended
+      went_at : (end : Option Exit) → (run h.image bounds.sizes bounds.steps).end ≡ end → GoesTo (end_status end)
+      unfolding kept_and_ran
+      went_at (Some (exit.Done face)) is a = kept_and_ran status.Done a
+      went_at (Some (exit.Fault x)) is a = kept_and_ran status.SourceFault a
+      went_at (Some (exit.Full true asked left)) is a =
+          record { ran = kept_and_ran status.StackFull a; full = full_for compiled.text bytes h.image bounds.sizes bounds.steps compiled.faithful h.spelled sized.heap sized.stack true asked left is }
+      went_at (Some (exit.Full false asked left)) is a =
+          record { ran = kept_and_ran status.HeapFull a; full = full_for compiled.text bytes h.image bounds.sizes bounds.steps compiled.faithful h.spelled sized.heap sized.stack false asked left is }
+      went_at (Some (exit.Stop why at)) is a = absurd (never_stops compiled.text bytes h.image bounds.sizes bounds.steps compiled.faithful h.spelled sized.heap sized.stack why at is)
+      went_at None is a = kept_and_ran status.StepLimit a
 
       pub went : (ended : Status) → Reports o e out err (answer_on loaded bounds.steps) ended → GoOutcome f o e folder out err src img bounds ended
       went ended r =
           ⊎_elim
-          (λ a. subst GoesTo a.status_is (by_end GoesTo (kept_and_ran status.Done) (kept_and_ran status.SourceFault) (never status.HeapFull refl) (never status.StackFull refl) (kept_and_ran status.StepLimit) (never status.MachineStop refl) (run h.image bounds.sizes bounds.steps).end) a)
+          (λ a. subst GoesTo a.status_is (went_at (run h.image bounds.sizes bounds.steps).end refl) a)
           (λ u. subst (λ (s : Status). GoOutcome f o e folder out err src img bounds s) (sym u.1) (go_cut u.0))
           (subst (λ (x : Answer). Reports o e out err x ended) go_answer_is r)

@@ -1,5 +1,5 @@
 -- What a command comes to: by its status, what stands on the sinks, what the folder holds, and why.
-use Rattle.std.specs.Prelude.{◌≡◌, ℕ, ◌^◌, ◌⊎◌, List, Option, Some, None, Ok, Err}
+use Rattle.std.specs.Prelude.{◌≡◌, ℕ, ◌^◌, ◌⊎◌, Bool, true, false, List, Option, Some, None, Ok, Err}
 use Rattle.t_ports.specs.declared.ports.Folder.{Ghosts as FolderOf}
 use Rattle.t_ports.specs.declared.ports.Sink.{Ghosts as SinkOf}
 use Rattle.t_base.specs.declared.basics.Span.{Span}
@@ -13,6 +13,7 @@ use Rattle.image_file.specs.declared.fault.ImageKind.{ImageKind}
 use Rattle.image_file.specs.Grammar.{Parts, IsImageOf}
 use Rattle.image_file.specs.Reading.{image_at}
 use Rattle.orbit_build.specs.Faithful.{HasCore, HasRefusal, IsOver, IsUnbuilt, IsBuilt, Faithful}
+use Rattle.orbit_build.specs.Full.{IsFullFor}
 use Rattle.orbit_cli.specs.declared.refusal.SourceKind.{SourceKind}
 use Rattle.orbit_cli.specs.declared.refusal.SourceKind.TheVariants as source
 use Rattle.orbit_cli.specs.declared.words.Bounds.{Bounds}
@@ -174,13 +175,18 @@ module _ {F S E : Type 0} (f : FolderOf F) (o : SinkOf S) (e : SinkOf E) (folder
   abbrev pub IsKeptAndRun : List ℕ → List ℕ → Bounds → Status → Type 0
   IsKeptAndRun src img bounds ended = OfText src img (λ image. IsAnswered o e out err (answer image bounds.sizes bounds.steps) ended)
 
-  -- Of `go`: its run never stops the machine, and what is built never fills the heap or the stack. Where there is no run, all is as with
-  -- `compile`.
+  -- so it was, and its run has filled the heap or the stack, at the cost of the text's unit
+  pub record IsKeptAndFull (src img : List ℕ) (bounds : Bounds) (stack : Bool) (ended : Status) : Type 0 where
+    pub ran : IsKeptAndRun src img bounds ended
+    pub full : IsFullFor ran.compiled.text ran.image bounds.sizes bounds.steps stack
+
+  -- Of `go`: its run never stops the machine, and fills the heap or the stack only where the text's own cost is greater than the size. Where
+  -- there is no run, all is as with `compile`.
   abbrev pub GoOutcome : List ℕ → List ℕ → Bounds → Status → Type 0
   GoOutcome src img bounds status.Done = IsKeptAndRun src img bounds status.Done
   GoOutcome src img bounds status.SourceFault = IsKeptAndRun src img bounds status.SourceFault
-  GoOutcome src img bounds status.HeapFull = ⊥
-  GoOutcome src img bounds status.StackFull = ⊥
+  GoOutcome src img bounds status.HeapFull = IsKeptAndFull src img bounds false status.HeapFull
+  GoOutcome src img bounds status.StackFull = IsKeptAndFull src img bounds true status.StackFull
   GoOutcome src img bounds status.StepLimit = IsKeptAndRun src img bounds status.StepLimit
   GoOutcome src img bounds status.MachineStop = ⊥
   GoOutcome src img bounds status.WriteFault =

@@ -18,7 +18,7 @@ returns-then-not-is_built-clause-unbuilt c = λ e.
 pub returns-clause-faithful : goal.returns-clause-faithful
 returns-clause-faithful c =
     let i = c.in_ok-bytes.ensures.image in
-    record { unit = c.in_ok-unit.unit; core = c.in_ok-unit.ensures.core; within = sym c.in_ok-limits.ensures; image = i.image; spelled = i.spelled; keeps = i.keeps; never_full = i.never_full }
+    record { unit = c.in_ok-unit.unit; core = c.in_ok-unit.ensures.core; within = sym c.in_ok-limits.ensures; image = i.image; spelled = i.spelled; keeps = i.keeps; tells = i.tells }
 
 pub returns-clause-built : goal.returns-clause-built
 returns-clause-built c =

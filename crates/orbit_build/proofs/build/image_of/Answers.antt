@@ -4,7 +4,7 @@ use Rattle.image_file.specs.Grammar.{Parts, IsImage, IsImageOf}
 use Rattle.m68020_step.specs.declared.storage.TheConstants.{CODE_START}
 use Rattle.orbit_build.specs.Sums.{Term}
 use Rattle.orbit_build.specs.Code.{unit_code, statics_bytes, image_of}
-use Rattle.orbit_build.proofs.UnitRuns.{keeps_meaning, never_full}
+use Rattle.orbit_build.proofs.UnitRuns.{keeps_meaning, tells_room}
 use Rattle.orbit_build.proofs.Units.{built_unit}
 use Rattle.orbit_build.proofs.Lengths.{is_image, code_short}
 use Rattle.orbit_build.proofs.build.image_of.Goals as goal
@@ -34,5 +34,5 @@ returns-clause-image c =
       image = image_of u.terms;
       spelled = subst (IsImageOf c.in_ok-bytes.bytes.items) (sym parts) c.in_ok-bytes.ensures.spelled;
       keeps = keeps_meaning c.args.unit.now u.terms u.are u.small (code_short u.terms u.few);
-      never_full = never_full c.args.unit.now u.terms u.are u.small (code_short u.terms u.few);
+      tells = tells_room c.args.unit.now u.terms u.are u.small (code_short u.terms u.few);
     }
