@@ -42,7 +42,7 @@ pub stands : (x : ℕ) (xs : List ℕ) → is_in xs x ≡ true → In x xs
 stands x [] i = absurd (false≢true i)
 stands x (y ∷ xs) i = any_or (y == x) (is_in xs x) (λ e. inl (eqb-true y x e)) (λ j. inr (stands x xs j)) i
 
-in_without : (x p : ℕ) (xs : List ℕ) → is_in xs x ≡ true → (x == p) ≡ false → is_in (without (p ∷ []) xs) x ≡ true
+pub in_without : (x p : ℕ) (xs : List ℕ) → is_in xs x ≡ true → (x == p) ≡ false → is_in (without (p ∷ []) xs) x ≡ true
 in_without x p xs i e =
     in_filtered (λ y. not (is_in (p ∷ []) y)) xs x i
     (ap not (unless ((p == x) || false) (λ q. any_or (p == x) false (λ r. true≢false (sym (same_number x p (sym (eqb-true p x r))) ∙ e)) (λ r. false≢true r) q)))
@@ -56,7 +56,7 @@ module _ (u : Cps) (formed : IsFormed u) where
   binds_param : (k param : Var) (body rest : ℕ) (x : ℕ) → param.0 ≡ x → is_in (own_binders (Node.Join k param body rest)) x ≡ true
   binds_param k param body rest x e = or_left (param.0 == x) _ (same_number param.0 x e)
 
-  param_is_no_k : (k param body other value second : ℕ) → IsJoin u k param body → IsJoin u other value second → (k == value) ≡ false
+  pub param_is_no_k : (k param body other value second : ℕ) → IsJoin u k param body → IsJoin u other value second → (k == value) ≡ false
   param_is_no_k k param body other value second a b = unless (k == value) (λ e. by (eqb-true k value e))
     where
       by : k ≡ value → ⊥

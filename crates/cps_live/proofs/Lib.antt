@@ -8,3 +8,4 @@ pub mod NeedLemmas
 pub mod FewNeeded
 pub mod FewInside
 pub mod JoinsFirst
+pub mod Passing

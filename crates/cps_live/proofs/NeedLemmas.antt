@@ -186,8 +186,8 @@ module _ (u : Cps) (formed : IsFormed u) where
 
     -- a Join is met
     pub table_met : (t : ℕ) (k param : Var) (body rest : ℕ) (after : List ℕ) (new free : List (List Var)) → is_in (walked u) t ≡ true → slice_get u.terms.items t ≡ Some (Node.Join k param body rest)
-        → ((x : ℕ) → is_in (list_at free body) x ≡ is_in (free_at u body) x) → MeetsJoin js cs met after lists new free k.0 param.0 body → IsTable u after new
-    table_met t k param body rest after new free i e f h c there =
+        → ((x : ℕ) → is_in (list_at free body) x ≡ is_in (free_at u body) x) → MeetsJoin js cs met after lists new free k.0 param.0 body → AllByRecursion (λ x. is_in js x ≡ true → is_in met x ≡ true) (list_at free body) → IsTable u after new
+    table_met t k param body rest after new free i e f h known c there =
         by (k.0 == c) refl
       where
         members : (xs : List ℕ) → ((x : ℕ) → is_in xs x ≡ true → is_in (free_at u body) x ≡ true) → AllByRecursion (λ x. is_in (free_at u body) x ≡ true) xs
@@ -201,8 +201,8 @@ module _ (u : Cps) (formed : IsFormed u) where
           join = record { at = t; var = k; value = param; rest = rest; reached = i; is = e; k_is = refl; param_is = refl };
           each = λ m j.
               let parts = both (is_in (flat_map E (list_at free body)) m) (not (param.0 == m)) (sym (h.here m) ∙ j) in
-              (all_each body (list_at free body) (members (list_at free body) (λ x q. sym (f x) ∙ q)) h.known m parts.0, other_way param.0 m parts.1);
-          all = λ m n q. h.here m ∙ ap (λ b. b && not (param.0 == m)) (all_found body (list_at free body) f h.known m n) ∙ way_back param.0 m q;
+              (all_each body (list_at free body) (members (list_at free body) (λ x q. sym (f x) ∙ q)) known m parts.0, other_way param.0 m parts.1);
+          all = λ m n q. h.here m ∙ ap (λ b. b && not (param.0 == m)) (all_found body (list_at free body) f known m n) ∙ way_back param.0 m q;
         }
 
         by : (b : Bool) → (k.0 == c) ≡ b → Entry u c (list_at new c)
@@ -211,7 +211,7 @@ module _ (u : Cps) (formed : IsFormed u) where
 
   -- ---- a term more
 
-  free_list : (free : Free) (t : ℕ) → IsFree u free → is_in (walked u) t ≡ true → (x : ℕ) → is_in (list_at free.at.items t) x ≡ is_in (free_at u t) x
+  pub free_list : (free : Free) (t : ℕ) → IsFree u free → is_in (walked u) t ≡ true → (x : ℕ) → is_in (list_at free.at.items t) x ≡ is_in (free_at u t) x
   free_list free t f i x = at_option (slice_get free.at.items t) (f.reached t (in_contains (walked u) t i))
     where
       at_option : (o : Option (List Var)) → IsSomeAnd o (AreFree u t) → is_in (option_map_or numbers o []) x ≡ is_in (free_at u t) x
@@ -231,25 +231,29 @@ module _ (u : Cps) (formed : IsFormed u) where
   same_table : (met after : List ℕ) (lists new : List (List Var)) → IsTable u met lists → (after ≡ met) × (new ≡ lists) → IsTable u after new
   same_table met after lists new table h = subst (λ m. IsTable u m new) (sym h.0) (subst (IsTable u met) (sym h.1) table)
 
+  -- what is free in the body of a Join there was met, where it is a Join's k
+  abbrev pub KnowsBodies : List ℕ → List ℕ → Free → ℕ → Type 0
+  KnowsBodies js met free t = (k param : Var) (body rest : ℕ) → slice_get u.terms.items t ≡ Some (Node.Join k param body rest) → AllByRecursion (λ x. is_in js x ≡ true → is_in met x ≡ true) (list_at free.at.items body)
+
   pub table_step : (js cs met after : List ℕ) (lists new : List (List Var)) (free : Free) (t : ℕ) (term : Term) → Kinds u js cs → IsTable u met lists → IsFree u free → is_in (walked u) t ≡ true → slice_get u.terms.items t ≡ Some term
-      → Meets js cs met after lists new free.at.items term → IsTable u after new
-  table_step js cs met after lists new free t (Node.Join k param body rest) kinds table f i e h = table_met js cs met lists kinds table t k param body rest after new free.at.items i e (free_list free body f (body_walked t k param body rest i e)) h
-  table_step js cs met after lists new free t (Node.Call g args k) kinds table f i e h = same_table met after lists new table h
-  table_step js cs met after lists new free t (Node.Prim b args k) kinds table f i e h = same_table met after lists new table h
-  table_step js cs met after lists new free t (Node.If test x y) kinds table f i e h = same_table met after lists new table h
-  table_step js cs met after lists new free t (Node.Labels vars lams body) kinds table f i e h = same_table met after lists new table h
-  table_step js cs met after lists new free t (Node.Give k value) kinds table f i e h = same_table met after lists new table h
-  table_step js cs met after lists new free t (Node.Set x value k) kinds table f i e h = same_table met after lists new table h
-  table_step js cs met after lists new free t (Node.Cell x value rest) kinds table f i e h = same_table met after lists new table h
-  table_step js cs met after lists new free t (Node.CellGet x k) kinds table f i e h = same_table met after lists new table h
-  table_step js cs met after lists new free t (Node.CellSet x value k) kinds table f i e h = same_table met after lists new table h
-  table_step js cs met after lists new free t (Node.GlobalGet g k) kinds table f i e h = same_table met after lists new table h
-  table_step js cs met after lists new free t (Node.GlobalInit g value k) kinds table f i e h = same_table met after lists new table h
-  table_step js cs met after lists new free t (Node.GlobalSet g value k) kinds table f i e h = same_table met after lists new table h
-  table_step js cs met after lists new free t (Node.Catch x body k) kinds table f i e h = same_table met after lists new table h
-  table_step js cs met after lists new free t (Node.Uncatch k value) kinds table f i e h = same_table met after lists new table h
-  table_step js cs met after lists new free t (Node.Object proc ops methods k) kinds table f i e h = same_table met after lists new table h
-  table_step js cs met after lists new free t (Node.Halt value) kinds table f i e h = same_table met after lists new table h
+      → Meets js cs met after lists new free.at.items term → KnowsBodies js met free t → IsTable u after new
+  table_step js cs met after lists new free t (Node.Join k param body rest) kinds table f i e h known = table_met js cs met lists kinds table t k param body rest after new free.at.items i e (free_list free body f (body_walked t k param body rest i e)) h (known k param body rest e)
+  table_step js cs met after lists new free t (Node.Call g args k) kinds table f i e h known = same_table met after lists new table h
+  table_step js cs met after lists new free t (Node.Prim b args k) kinds table f i e h known = same_table met after lists new table h
+  table_step js cs met after lists new free t (Node.If test x y) kinds table f i e h known = same_table met after lists new table h
+  table_step js cs met after lists new free t (Node.Labels vars lams body) kinds table f i e h known = same_table met after lists new table h
+  table_step js cs met after lists new free t (Node.Give k value) kinds table f i e h known = same_table met after lists new table h
+  table_step js cs met after lists new free t (Node.Set x value k) kinds table f i e h known = same_table met after lists new table h
+  table_step js cs met after lists new free t (Node.Cell x value rest) kinds table f i e h known = same_table met after lists new table h
+  table_step js cs met after lists new free t (Node.CellGet x k) kinds table f i e h known = same_table met after lists new table h
+  table_step js cs met after lists new free t (Node.CellSet x value k) kinds table f i e h known = same_table met after lists new table h
+  table_step js cs met after lists new free t (Node.GlobalGet g k) kinds table f i e h known = same_table met after lists new table h
+  table_step js cs met after lists new free t (Node.GlobalInit g value k) kinds table f i e h known = same_table met after lists new table h
+  table_step js cs met after lists new free t (Node.GlobalSet g value k) kinds table f i e h known = same_table met after lists new table h
+  table_step js cs met after lists new free t (Node.Catch x body k) kinds table f i e h known = same_table met after lists new table h
+  table_step js cs met after lists new free t (Node.Uncatch k value) kinds table f i e h known = same_table met after lists new table h
+  table_step js cs met after lists new free t (Node.Object proc ops methods k) kinds table f i e h known = same_table met after lists new table h
+  table_step js cs met after lists new free t (Node.Halt value) kinds table f i e h known = same_table met after lists new table h
 
   pub more_needed : (js cs met : List ℕ) (lists old new : List (List Var)) (free : Free) (places : List ℕ) (i d : ℕ) (t : ℕ) (xs : List Var) → Kinds u js cs → IsTable u met lists → IsFree u free → places ≡ walked u → i < length places → t ≡ get_or places i d
       → AreNeededSoFar u (take i places) old → AllByRecursion (λ x. is_in js x ≡ true → is_in met x ≡ true) (list_at free.at.items t) → ((m : ℕ) → is_in (numbers xs) m ≡ is_in (flat_map (expansion js cs lists) (list_at free.at.items t)) m)

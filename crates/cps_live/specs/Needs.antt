@@ -1,6 +1,6 @@
 -- What a term needs: what is live in it, and with the k of a Join that is free in it what the Join's body needs but for the parameter.
 use Rattle.std.specs.Prelude.{◌≡◌, ◌≢◌, ℕ, ◌<◌, ◌==◌, ◌||◌, ◌&&◌, not, true, false, if◌then◌else◌, List, [], ◌∷◌, length, AllPairs, Contains, Some, IsSomeAnd, slice_get}
-use Rattle.std.specs.List.{AllByRecursion, flat_map}
+use Rattle.std.specs.List.{flat_map}
 use Rattle.t_base.specs.declared.basics.Var.{Var}
 use Rattle.cps_ir.specs.declared.terms.Term.{Term}
 use Rattle.cps_ir.specs.declared.terms.Term.TheVariants as Node
@@ -47,7 +47,6 @@ pub record MeetsJoin (joins ks before after : List ℕ) (old new free : List (Li
   pub met : (m : ℕ) → is_in after m ≡ (is_in before m || k == m)
   pub others : (m : ℕ) → (k == m) ≡ false → list_at new m ≡ list_at old m
   pub here : (m : ℕ) → is_in (list_at new k) m ≡ (is_in (flat_map (expansion joins ks old) (list_at free body)) m && not (param == m))
-  pub known : AllByRecursion (λ x. is_in joins x ≡ true → is_in before x ≡ true) (list_at free body)
 
 abbrev pub Meets : List ℕ → List ℕ → List ℕ → List ℕ → List (List Var) → List (List Var) → List (List Var) → Term → Type 0
 Meets joins ks before after old new free (Node.Join k param body rest) = MeetsJoin joins ks before after old new free k.0 param.0 body

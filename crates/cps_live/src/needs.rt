@@ -1,6 +1,6 @@
 // What each term needs.
 ghost use Rattle.std.specs.Prelude.{◌≡◌, ◌≢◌, ℕ, ◌<◌, ◌==◌, ◌||◌, ◌&&◌, not, true, false, [], length, All, replicate, AllPairs, OnOk, IfOk};
-ghost use Rattle.std.specs.List.{flat_map, AllByRecursion};
+ghost use Rattle.std.specs.List.{flat_map};
 ghost use Rattle.cps_ir.specs.Parts.{walked, reached_terms};
 ghost use Rattle.cps_ir.specs.Reaches.{is_in};
 ghost use Rattle.cps_ir.specs.Whole.{IsWhole};
@@ -43,15 +43,11 @@ fn insert_list(lists: &[Vars], at: u32, found: &mut NumberSet) -> Result<(), Mem
     Ok(())
 }
 
-/// Adds what a free variable stands for. A Join's `k` was met before: else it would be no whole program.
+/// Adds what a free variable stands for.
 fn expand_one(joins: &Joins, x: u32, found: &mut NumberSet) -> Result<(), Memory>
-    ensures found { OnOk result ((m : ℕ) → is_in found.new m ≡ (is_in found.old m || is_in (expansion joins.now.joins joins.now.ks joins.now.lists.items x) m)) }
-    ensures met { OnOk result (is_in joins.now.joins x ≡ true → is_in joins.now.met x ≡ true) }
+    ensures { OnOk result ((m : ℕ) → is_in found.new m ≡ (is_in found.old m || is_in (expansion joins.now.joins joins.now.ks joins.now.lists.items x) m)) }
 {
     if joins.joins.contains(x) {
-        if !joins.met.contains(x) {
-            return Err(Memory);
-        }
         insert_list(&joins.lists, x, found)?;
         return Ok(());
     }
@@ -62,8 +58,7 @@ fn expand_one(joins: &Joins, x: u32, found: &mut NumberSet) -> Result<(), Memory
 }
 
 fn expand_all(joins: &Joins, free: &[Var], found: &mut NumberSet) -> Result<(), Memory>
-    ensures found { OnOk result ((m : ℕ) → is_in found.new m ≡ (is_in found.old m || is_in (flat_map (expansion joins.now.joins joins.now.ks joins.now.lists.items) (numbers free.now)) m)) }
-    ensures met { OnOk result (AllByRecursion (λ x. is_in joins.now.joins x ≡ true → is_in joins.now.met x ≡ true) (numbers free.now)) }
+    ensures { OnOk result ((m : ℕ) → is_in found.new m ≡ (is_in found.old m || is_in (flat_map (expansion joins.now.joins joins.now.ks joins.now.lists.items) (numbers free.now)) m)) }
 {
     for x in free {
         expand_one(joins, x.0, found)?;
@@ -73,8 +68,7 @@ fn expand_all(joins: &Joins, free: &[Var], found: &mut NumberSet) -> Result<(), 
 
 /// Adds what the variables in the list at a place stand for.
 fn expand(joins: &Joins, free: &[Vars], at: u32, found: &mut NumberSet) -> Result<(), Memory>
-    ensures found { OnOk result ((m : ℕ) → is_in found.new m ≡ (is_in found.old m || is_in (flat_map (expansion joins.now.joins joins.now.ks joins.now.lists.items) (list_at free.now at)) m)) }
-    ensures met { OnOk result (AllByRecursion (λ x. is_in joins.now.joins x ≡ true → is_in joins.now.met x ≡ true) (list_at free.now at)) }
+    ensures { OnOk result ((m : ℕ) → is_in found.new m ≡ (is_in found.old m || is_in (flat_map (expansion joins.now.joins joins.now.ks joins.now.lists.items) (list_at free.now at)) m)) }
 {
     if let Some(vars) = free.get(at as usize) {
         expand_all(joins, vars.as_slice(), found)?;
@@ -93,7 +87,6 @@ fn expanded(
     requires { found.old ≡ [] }
     ensures vars { IfOk result (λ xs. (m : ℕ) → is_in (numbers xs) m ≡ is_in (flat_map (expansion joins.now.joins joins.now.ks joins.now.lists.items) (list_at free.now at)) m) }
     ensures once { IfOk result (λ xs. AllPairs (λ x y. x ≢ y) (numbers xs)) }
-    ensures met { OnOk result (AllByRecursion (λ x. is_in joins.now.joins x ≡ true → is_in joins.now.met x ≡ true) (list_at free.now at)) }
     ensures found { OnOk result (found.new ≡ []) }
 {
     expand(joins, free, at, found)?;
