@@ -5,5 +5,6 @@ pub mod laws;
 mod templates;
 mod texts;
 mod things;
+mod writing;
 
 pub use crate::things::EntryBlocks;
