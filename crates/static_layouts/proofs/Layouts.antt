@@ -200,7 +200,6 @@ bytes_there None e = absurd (cc)
 -- ---- the whole
 
 module _ (p : Frames) (e : Entries) (listed : ℕ → ℕ) (s : Statics) (w : IsWhole p) (h : IsGathered p s) where
-
   abbrev l : Layout
   l = layout_of p e listed (fixed_in s)
 
@@ -270,10 +269,14 @@ module _ (p : Frames) (e : Entries) (listed : ℕ → ℕ) (s : Statics) (w : Is
       let at = there_within p.shared.pairs.items k g in
       let is : IsConst p.shared at.0.0 × IsConst p.shared at.0.1 = all_at (λ (c : Const × Const). IsConst p.shared c.0 × IsConst p.shared c.1) p.shared.pairs.items k at.0 w.shared.pairs at.1 in
       let part : (y : Fixed) → Has (of_const at.0.0 ++ of_const at.0.1) y → is_some (fixed_place l y) ≡ true =
-          (λ y f. placed y (h.at_pairs k (omega arith) q y (ap (λ o. has (map fixed_of (option_map_or (λ pair. of_const pair.0 ++ of_const pair.1) o [])) y) at.1 ∙ f))) in
-      ((val_of at.0.0, val_of at.0.1), mapped_at (λ (c : Const × Const). (val_of c.0, val_of c.1)) p.shared.pairs.items k at.0 at.1,
-       (ap is_some (const_first at.0.0) ∙ const_word at.0.0 is.0 (λ y f. part y (has_left (of_const at.0.0) (of_const at.0.1) y f)),
-        (ap is_some (const_first at.0.1) ∙ const_word at.0.1 is.1 (λ y f. part y (has_right (of_const at.0.0) (of_const at.0.1) y f)), tt)))
+      (λ y f. placed y (h.at_pairs k (omega arith) q y (ap (λ o. has (map fixed_of (option_map_or (λ pair. of_const pair.0 ++ of_const pair.1) o [])) y) at.1 ∙ f))) in (
+        (val_of at.0.0, val_of at.0.1),
+        mapped_at (λ (c : Const × Const). (val_of c.0, val_of c.1)) p.shared.pairs.items k at.0 at.1,
+        (
+          ap is_some (const_first at.0.0) ∙ const_word at.0.0 is.0 (λ y f. part y (has_left (of_const at.0.0) (of_const at.0.1) y f)),
+          (ap is_some (const_first at.0.1) ∙ const_word at.0.1 is.1 (λ y f. part y (has_right (of_const at.0.0) (of_const at.0.1) y f)), tt),
+        ),
+      )
   fixed_there (SymbolOf n) q g = tt
   fixed_there (BuiltinOf b) q g = tt
   fixed_there (OperationOf o) q g = tt
@@ -351,15 +354,18 @@ module _ (p : Frames) (e : Entries) (listed : ℕ → ℕ) (s : Statics) (w : Is
 
   block_named : (i : ℕ) (b : Block) → slice_get p.blocks.items i ≡ Some b → AreBlockNames l p b
   block_named i b e =
-      let there : BlockNamesAreThere p b = all_at (BlockNamesAreThere p) p.blocks.items i b w.places.blocks e in
-      (all_of (λ op. IsOpNamed l op × AllByRecursion (IsNamed l p.shared) (op_args op)) b.ops.items (λ j op f.
-         let names : OpNamesAreThere p op × All (IsArg p) (op_args op) = all_at (λ o. OpNamesAreThere p o × All (IsArg p) (op_args o)) b.ops.items j op there.0 f in
-         (made_named op (λ y q. in_ops j op f y (has_left (made_by op) (flat_map of_arg (op_args op)) y q)),
-          args_named (op_args op) names.1 (λ y q. in_ops j op f y (has_right (made_by op) (flat_map of_arg (op_args op)) y q)))),
-       args_named (end_args b.last) there.1.1 (λ y q. in_block y (has_right (flat_map of_op b.ops.items) (flat_map of_arg (end_args b.last)) y q)))
+      let there : BlockNamesAreThere p b = all_at (BlockNamesAreThere p) p.blocks.items i b w.places.blocks e in (
+        all_of (λ op. IsOpNamed l op × AllByRecursion (IsNamed l p.shared) (op_args op)) b.ops.items (λ j op f.
+            let names : OpNamesAreThere p op × All (IsArg p) (op_args op) = all_at (λ o. OpNamesAreThere p o × All (IsArg p) (op_args o)) b.ops.items j op there.0 f in (
+              made_named op (λ y q. in_ops j op f y (has_left (made_by op) (flat_map of_arg (op_args op)) y q)),
+              args_named (op_args op) names.1 (λ y q. in_ops j op f y (has_right (made_by op) (flat_map of_arg (op_args op)) y q)),
+            )),
+        args_named (end_args b.last) there.1.1 (λ y q. in_block y (has_right (flat_map of_op b.ops.items) (flat_map of_arg (end_args b.last)) y q)),
+      )
     where
       in_block : (y : Fixed) → Has (of_block b) y → is_some (fixed_place l y) ≡ true
       in_block y q = named_is y (has_right (closures_below (proc_count p.shared)) (flat_map of_block p.blocks.items) y (has_flat of_block p.blocks.items i b y e q))
+
       in_ops : (j : ℕ) (op : FrameOp) → slice_get b.ops.items j ≡ Some op → (y : Fixed) → Has (of_op op) y → is_some (fixed_place l y) ≡ true
       in_ops j op f y q = in_block y (has_left (flat_map of_op b.ops.items) (flat_map of_arg (end_args b.last)) y (has_flat of_op b.ops.items j op y f q))
 

@@ -157,9 +157,10 @@ distinct_more : (size : Fixed → ℕ) (xs : List Fixed) (x : Fixed) → AreDist
 distinct_more size [] x d none = (refl, tt)
 distinct_more size (z ∷ zs) x d none =
     let parts = none_behind size z zs x none in
-    let apart : same_fixed x z ≡ false = false_of (same_fixed x z) (λ q. true≢false (sym (fixed_self z) ∙ subst (λ y. same_fixed z y ≡ false) (fixed_sound x z q) parts.0)) in
-    (place_more same_fixed size zs x z ∙ (ap (λ o. or_other o (if same_fixed x z then Some (total_of size zs) else None)) d.0 ∙ ap (λ b. if b then Some (total_of size zs) else None) apart),
-     distinct_more size zs x d.1 parts.1)
+    let apart : same_fixed x z ≡ false = false_of (same_fixed x z) (λ q. true≢false (sym (fixed_self z) ∙ subst (λ y. same_fixed z y ≡ false) (fixed_sound x z q) parts.0)) in (
+      place_more same_fixed size zs x z ∙ (ap (λ o. or_other o (if same_fixed x z then Some (total_of size zs) else None)) d.0 ∙ ap (λ b. if b then Some (total_of size zs) else None) apart),
+      distinct_more size zs x d.1 parts.1,
+    )
 
 -- ---- words
 
@@ -187,12 +188,12 @@ word_more p xs x y words w old count none is e = by (same_fixed x y) refl
     by true f =
         let alike : x ≡ y = fixed_sound x y f in
         let at : place_of same_fixed (words_of p) (xs ++ x ∷ []) x ≡ Some (total_of (words_of p) xs) =
-            place_more same_fixed (words_of p) xs x x ∙ (ap (λ o. or_other o (if same_fixed x x then Some (total_of (words_of p) xs) else None)) none ∙ ap (λ b. if b then Some (total_of (words_of p) xs) else None) (fixed_self x)) in
+        place_more same_fixed (words_of p) xs x x ∙ (ap (λ o. or_other o (if same_fixed x x then Some (total_of (words_of p) xs) else None)) none ∙ ap (λ b. if b then Some (total_of (words_of p) xs) else None) (fixed_self x)) in
         let new : word_in p (xs ++ x ∷ []) x ≡ STATICS_START + 4 * (front_of p + total_of (words_of p) xs) + tag_for x = ap (λ o. or_zero (tagged (tag_for x) (option_map (λ n. STATICS_START + 4 * (front_of p + n)) o))) at in
         (e ∙ ap (λ b. if b then STATICS_START + 4 * words + tag_for x else old) f) ∙ (ap (λ n. STATICS_START + 4 * n + tag_for x) count ∙ (sym new ∙ ap (word_in p (xs ++ x ∷ [])) alike))
     by false f =
         let at : place_of same_fixed (words_of p) (xs ++ x ∷ []) y ≡ place_of same_fixed (words_of p) xs y =
-            place_more same_fixed (words_of p) xs x y ∙ (ap (λ b. or_other (place_of same_fixed (words_of p) xs y) (if b then Some (total_of (words_of p) xs) else None)) f ∙ same_option (place_of same_fixed (words_of p) xs y)) in
+        place_more same_fixed (words_of p) xs x y ∙ (ap (λ b. or_other (place_of same_fixed (words_of p) xs y) (if b then Some (total_of (words_of p) xs) else None)) f ∙ same_option (place_of same_fixed (words_of p) xs y)) in
         (e ∙ ap (λ b. if b then STATICS_START + 4 * words + tag_for x else old) f) ∙ (is ∙ ap (λ o. or_zero (tagged (tag_for y) (option_map (λ n. STATICS_START + 4 * (front_of p + n)) o))) (sym at))
       where
         same_option : (o : Option ℕ) → or_other o None ≡ o
@@ -244,8 +245,10 @@ is_appended p t count old new s zero_word is h = record {
   where
     list : fixed_in new ≡ fixed_in old ++ fixed_of t ∷ []
     list = ap (map fixed_of) h.things ∙ map-append fixed_of old.things.items (t ∷ [])
+
     none : place_of same_fixed (words_of p) (fixed_in old) (fixed_of t) ≡ None
     none = none_there p (fixed_in old) (fixed_of t) (sym (s.table (fixed_of t)) ∙ zero_word)
+
     sum : (f a b m : ℕ) → m ≡ a + b → f + a + b ≡ f + m
     sum f a b m e = omega (arith, e)
 
@@ -257,6 +260,7 @@ is_there p t s h ne = record {
   where
     there : has (fixed_in s) (fixed_of t) ≡ true
     there = some_there p (fixed_in s) (fixed_of t) (λ e. ne (h.table (fixed_of t) ∙ e))
+
     by : (y : Fixed) (b : Bool) → same_fixed (fixed_of t) y ≡ b → has (fixed_in s) y ≡ ((same_fixed (fixed_of t) y || false) || has (fixed_in s) y)
     by y true f = rw f (subst (λ z. has (fixed_in s) z ≡ true) (fixed_sound (fixed_of t) y f) there)
     by y false f = rw f refl

@@ -203,12 +203,12 @@ block_good : (p : Frames) → IsWhole p → (i : ℕ) (b : Block) → slice_get 
 block_good p w i b e =
     let there : BlockNamesAreThere p b = all_at (BlockNamesAreThere p) p.blocks.items i b w.places.blocks e in
     all_join (Good p) (flat_map of_op b.ops.items) (flat_map of_arg (end_args b.last))
-      (all_flat (Good p) of_op b.ops.items (λ j op f.
-        let names : OpNamesAreThere p op × All (IsArg p) (op_args op) = all_at (λ o. OpNamesAreThere p o × All (IsArg p) (op_args o)) b.ops.items j op there.0 f in
-        all_join (Good p) (made_by op) (flat_map of_arg (op_args op))
-          (made_good p op names.0 (λ k c. contains_part block_codes p.blocks.items i b k e (Contains-append_left (flat_map codes_of b.ops.items) (flat_map arg_codes (block_args b)) k (contains_part codes_of b.ops.items j op k f c))))
-          (args_good p (op_args op) names.1 (λ a d k c. in_args a k (Contains-append_left (flat_map op_args b.ops.items) (end_args b.last) a (contains_part op_args b.ops.items j op a f d)) c))))
-      (args_good p (end_args b.last) there.1.1 (λ a d k c. in_args a k (Contains-append_right (flat_map op_args b.ops.items) (end_args b.last) a d) c))
+    (all_flat (Good p) of_op b.ops.items (λ j op f.
+    let names : OpNamesAreThere p op × All (IsArg p) (op_args op) = all_at (λ o. OpNamesAreThere p o × All (IsArg p) (op_args o)) b.ops.items j op there.0 f in
+    all_join (Good p) (made_by op) (flat_map of_arg (op_args op))
+    (made_good p op names.0 (λ k c. contains_part block_codes p.blocks.items i b k e (Contains-append_left (flat_map codes_of b.ops.items) (flat_map arg_codes (block_args b)) k (contains_part codes_of b.ops.items j op k f c))))
+    (args_good p (op_args op) names.1 (λ a d k c. in_args a k (Contains-append_left (flat_map op_args b.ops.items) (end_args b.last) a (contains_part op_args b.ops.items j op a f d)) c))))
+    (args_good p (end_args b.last) there.1.1 (λ a d k c. in_args a k (Contains-append_right (flat_map op_args b.ops.items) (end_args b.last) a d) c))
   where
     in_args : (a : Arg) (k : ℕ) → Contains (block_args b) a → Contains (arg_codes a) k → Contains (closure_codes p) k
     in_args a k d c = contains_part block_codes p.blocks.items i b k e (Contains-append_right (flat_map codes_of b.ops.items) (flat_map arg_codes (block_args b)) k (flat_contained arg_codes (block_args b) a k d c))

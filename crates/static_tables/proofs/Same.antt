@@ -7,7 +7,6 @@ use Rattle.t_prim.specs.Values.{Text, Literal, PrintName}
 use Rattle.t_prim.specs.Identity.{number_of, is_same_text}
 use Rattle.frame_words.specs.Layouts.{Fixed, ClosureOf, BuiltinOf, OperationOf, TextOf, SymbolOf, PairOf, TemplateOf, same_fixed}
 
-
 -- ---- items that are the same are equal
 
 abbrev builtins : List Builtin

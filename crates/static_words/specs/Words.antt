@@ -11,12 +11,19 @@ use Rattle.t_base.specs.declared.shared_parts.Const.TheVariants as Constant
 use Rattle.t_prim.specs.Operands.{in_range}
 use Rattle.t_prim.specs.Values.{Literal, PrintName}
 use Rattle.tagged_words.specs.Tags.{fixnum_word, char_word}
-use Rattle.frame_words.specs.Layouts.{OperationOf, TextOf, SymbolOf, PairOf, packed}
+use Rattle.frame_words.specs.Layouts.{Layout, OperationOf, TextOf, SymbolOf, PairOf, packed}
 use Rattle.frame_words.specs.ValueWords.{NIL, TRUE}
 use Rattle.static_tables.specs.declared.statics.Statics.{Statics}
-use Rattle.static_tables.specs.Tables.{index_of}
+use Rattle.static_tables.specs.Tables.{index_of, bytes_of, methods_in, fixed_in}
 use Rattle.operand_drafts.specs.Places.{word_at}
-use Rattle.static_layouts.specs.Layouts.{Entries}
+use Rattle.word_ir.specs.State.{static_word}
+use Rattle.frame_ir.specs.declared.forms.Frames.{Frames}
+use Rattle.frame_ir.specs.Arguments.{code_of_default}
+use Rattle.frame_ir.specs.Running.{bare_state}
+use Rattle.frame_words.specs.Contents.{default_word, fixed_contents}
+use Rattle.static_names.specs.declared.things.Thing.{Thing}
+use Rattle.static_names.specs.declared.things.Thing.TheVariants as thing
+use Rattle.static_layouts.specs.Layouts.{Entries, layout_of, IsSetOut}
 use Rattle.static_words.specs.declared.things.EntryBlocks.{EntryBlocks}
 
 abbrev pub entries_of : EntryBlocks → Entries
@@ -67,3 +74,29 @@ method_words s e m = first.Word (word_at s.table.items (index_of (OperationOf m.
 
 abbrev pub methods_words : Statics → EntryBlocks → List (ℕ × ℕ) → List StaticWord
 methods_words s e methods = padded_words (flat_map (method_words s e) methods ++ first.Word 0 ∷ [])
+
+-- ---- all things
+
+abbrev pub thing_words : Frames → Statics → EntryBlocks → List ℕ → List StaticWord → Thing → List StaticWord
+thing_words p s e listed defaults (thing.Closure k) = closure_words e k
+thing_words p s e listed defaults (thing.Builtin b) = builtin_words e b
+thing_words p s e listed defaults (thing.Operation o) = operation_words defaults o
+thing_words p s e listed defaults (thing.Literal k) = text_words (bytes_of p.shared (Literal k))
+thing_words p s e listed defaults (thing.PrintName n) = text_words (bytes_of p.shared (PrintName n))
+thing_words p s e listed defaults (thing.Symbol n) = symbol_words s listed n
+thing_words p s e listed defaults (thing.Pair k) = option_map_or (pair_words s) (slice_get p.shared.pairs.items k) (first.Word 0 ∷ first.Word 0 ∷ [])
+thing_words p s e listed defaults (thing.Template t) = methods_words s e (methods_in p t)
+
+-- the layout in which they stand
+abbrev pub setting : Frames → EntryBlocks → List ℕ → Statics → Layout
+setting p e listed s = layout_of p (entries_of e) (word_at listed) (fixed_in s)
+
+-- the words of the codes of defaults
+abbrev pub AreDefaults : Frames → EntryBlocks → List StaticWord → Type 0
+AreDefaults p e defaults = (o : ℕ) → static_word (default_at defaults o) ≡ default_word (option_map (word_at e.closures.items) (code_of_default p.shared o))
+
+-- What is written for what was gathered is what the layout has at the start of the program.
+abbrev pub WrittenAsLaidOut : Type 0
+WrittenAsLaidOut =
+    (p : Frames) (e : EntryBlocks) (listed : List ℕ) (defaults : List StaticWord) (s : Statics) → IsSetOut p (setting p e listed s) s → AreDefaults p e defaults
+    → map static_word (flat_map (thing_words p s e listed defaults) s.things.items) ≡ flat_map (fixed_contents (setting p e listed s) (bare_state p)) (fixed_in s)

@@ -20,11 +20,7 @@ pub struct EntryBlocks {
     pub builtins: Vec<u32>,
 }
 
-fn push_closure(
-    entries: &EntryBlocks,
-    k: u32,
-    words: &mut Vec<StaticWord>,
-) -> Result<(), Memory>
+fn push_closure(entries: &EntryBlocks, k: u32, words: &mut Vec<StaticWord>) -> Result<(), Memory>
     ensures { OnOk result (words.new.items ≡ words.old.items ++ closure_words entries.now k) }
 {
     words.push(StaticWord::Word(0x1D))?;
@@ -34,11 +30,7 @@ fn push_closure(
     Ok(())
 }
 
-fn push_builtin(
-    entries: &EntryBlocks,
-    p: Prim,
-    words: &mut Vec<StaticWord>,
-) -> Result<(), Memory>
+fn push_builtin(entries: &EntryBlocks, p: Prim, words: &mut Vec<StaticWord>) -> Result<(), Memory>
     ensures { OnOk result (words.new.items ≡ words.old.items ++ builtin_words entries.now p) }
 {
     words.push(StaticWord::Word(0x29))?;
@@ -64,13 +56,7 @@ fn const_word(statics: &Statics, c: Const) -> u32
     ensures { result ≡ const_word statics.now c }
 {
     match c {
-        Const::Fix(x) => {
-            if is_fixnum(x) {
-                fixnum_word(x)
-            } else {
-                0
-            }
-        }
+        Const::Fix(x) => { if is_fixnum(x) { fixnum_word(x) } else { 0 } }
         Const::Char(code) => {
             if code < 128 {
                 256 * u32::from(code) + 1
