@@ -171,8 +171,8 @@ pub fn is_procedure(
     ensures { OnOk result (Writes (code_at (code_of builtin.IsProcedure) (a ∷ []) t to) draft.old draft.new) }
 {
     leave_nil(draft)?;
-    let arm = ahead(draft, 6)?;
-    let meet = ahead(draft, 7)?;
+    let arm = ahead(draft, 5)?;
+    let meet = ahead(draft, 6)?;
     draft.check(alloc, Test::TagIs(2), a, Operand::Word(0), meet)?;
     draft.line(WordOp::Load {
         to: Var(t),
