@@ -24,7 +24,7 @@ use Rattle.cps_order.specs.Order.{one, tally, IsOrdered}
 use Rattle.cps_order.proofs.Reached.{all_walked}
 use Rattle.conversion_laws.proofs.Visits.{Table, FormTable, Full, FullAt, Good, lam_good, within_good, forms_good}
 
-abbrev has_default : OpInfo → Bool
+abbrev pub has_default : OpInfo → Bool
 has_default info = info.default
 
 -- the closures of the globals' procedures have their numbers in order

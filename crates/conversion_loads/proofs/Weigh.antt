@@ -112,7 +112,7 @@ module _ (x : Translation) (same : (v : Var) → cps_assigned x.cps v.0 ≡ is_a
   nothing_times : (n : ℕ) → n * 0 ≡ 0
   nothing_times n = omega arith
 
-  front_least : (term : Term) (xs : List ℕ) → kind_weight term ≡ 0 → procs_of term ≡ [] → labels_of term ≡ [] → escape_of term ++ cont_param (cont_of term) ≡ xs → front x.cps cap term ≤ length xs
+  pub front_least : (term : Term) (xs : List ℕ) → kind_weight term ≡ 0 → procs_of term ≡ [] → labels_of term ≡ [] → escape_of term ++ cont_param (cont_of term) ≡ xs → front x.cps cap term ≤ length xs
   front_least term xs k p l e =
       let a : proc_weight term * length (procs_of term) ≡ 0 = ap (λ ls. proc_weight term * length ls) p ∙ nothing_times (proc_weight term) in
       let b : sum_by (label_weight x.cps term) (labels_of term) ≡ 0 = ap (sum_by (label_weight x.cps term)) l in
@@ -296,7 +296,7 @@ module _ (x : Translation) (same : (v : Var) → cps_assigned x.cps v.0 ≡ is_a
               (omega arith) (omega (arith, be, le, small, few)) h.assigned);
         }
 
-    lam_light : (form : ℕ) (bound : List ℕ) (params : List Var) (body l m : ℕ) → LamAt x conv form bound params body l → length params + w form body ≤ suc m → m ≤ cap → (lam : Lam) → slice_get x.cps.lams.items l ≡ Some lam → LamLight x.cps cap m lam
+    pub lam_light : (form : ℕ) (bound : List ℕ) (params : List Var) (body l m : ℕ) → LamAt x conv form bound params body l → length params + w form body ≤ suc m → m ≤ cap → (lam : Lam) → slice_get x.cps.lams.items l ≡ Some lam → LamLight x.cps cap m lam
     lam_light form bound params body l m h le small lam e = subst (LamLight x.cps cap m) (some_same h.0 lam (sym h.1 ∙ e)) (lam_is_light form bound params body l h.0 m h.1 h.2 le small)
 
     -- ---- nodes, by their kinds
@@ -384,7 +384,7 @@ module _ (x : Translation) (same : (v : Var) → cps_assigned x.cps v.0 ≡ is_a
         (go form (adding vars bound) (adding vars held) body k h.start d ms (body_ctx vars bound held k ctx) costs (omega (arith, be)) (omega (arith, be, le, small)) h.body_as) (omega arith) (omega (arith, be, le, small, few)) h.assigned)
         (omega (arith, be, le, few)) small h.values
 
-    simple_light : (form : ℕ) (bound held : List ℕ) (keys : List ℕ) (args : List Arg) (term : Term) (k : Cont) (t d m : ℕ) → Ctx bound held k → Costs d k
+    pub simple_light : (form : ℕ) (bound held : List ℕ) (keys : List ℕ) (args : List Arg) (term : Term) (k : Cont) (t d m : ℕ) → Ctx bound held k → Costs d k
         → kind_weight term ≡ 0 → args_of term ≡ args → lams_of term ≡ procs_of term → labels_of term ≡ [] → escape_of term ++ cont_param (cont_of term) ≡ cont_param (Some k) → own_parts [] term ≡ cont_parts [] (Some k) → cont_of term ≡ Some k
         → ((y : ℕ) → is_in (place_variable term) y ≡ true → is_in held y ≡ true) → tot (w form) keys + d ≤ m → m ≤ cap → OverAll x conv form bound held keys args term t → LightAt m t
     simple_light form bound held keys args term k t d m ctx costs kind as_args lams labels opens own cont place le small h =
