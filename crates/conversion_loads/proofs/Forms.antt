@@ -1,8 +1,8 @@
 -- Each form starts with a closed term, whose load is at most the nodes of the form.
-use Rattle.std.specs.Prelude.{All, IsTrue, sum_by}
-use Rattle.std.specs.List.{AllByRecursion, flat_map, filter, filter_map}
+use Rattle.std.specs.Prelude.{All, IsTrue}
+use Rattle.std.specs.List.{AllByRecursion, flat_map, filter}
 use Rattle.std.specs.Option.{option_map, option_map_or, option_and_then}
-use Rattle.std.proofs.Common.{◌≡◌, ◌==◌, ◌||◌, ◌≤◌, ◌<◌, ◌+◌, ℕ, zero, suc, Bool, true, false, if◌then◌else◌, ◌⊎◌, inl, inr, List, [], ◌∷◌, ◌++◌, length, map, take, Option, Some, None, slice_get, refl, sym, ap, ◌∙◌, subst, arith}
+use Rattle.std.proofs.Common.{◌≡◌, ◌==◌, ◌||◌, ◌≤◌, ◌<◌, ◌+◌, ℕ, zero, suc, Bool, true, false, if◌then◌else◌, inl, inr, List, [], ◌∷◌, length, map, take, Option, Some, None, slice_get, refl, sym, ap, ◌∙◌, subst, arith}
 use Rattle.std.proofs.lemmas.Bool.{true≢false, false≢true, cases_lt}
 use Rattle.t_base.specs.declared.basics.Var.{Var}
 use Rattle.t_base.specs.declared.shared_parts.Const.{Const}
@@ -14,7 +14,6 @@ use Rattle.t_core.specs.declared.forms.Core.TheVariants as Node
 use Rattle.t_core.specs.declared.forms.FormKind.{FormKind}
 use Rattle.t_core.specs.declared.forms.FormKind.TheVariants.{Define, Lset, Operation, Plain}
 use Rattle.t_core.specs.declared.forms.Form.{Form}
-use Rattle.t_core.specs.declared.forms.UnitCore.{UnitCore}
 use Rattle.t_core.specs.Counts.{definition_count}
 use Rattle.t_core.specs.Whole.{IsWhole, defines_global, defines_op}
 use Rattle.t_meaning.specs.State.{Procedure}
@@ -34,14 +33,14 @@ use Rattle.cps_ir.specs.Reaches.{is_in, free_at}
 use Rattle.cps_ir.specs.Loads.{is_empty, is_closed, term_load, lam_load}
 use Rattle.cps_ir.proofs.ProperLists.{some_same, none_some, each_append, each_more}
 use Rattle.cps_ir.proofs.Closed.{all_of_each}
-use Rattle.cps_conversion.specs.Conversion.{Translation, Stands, ConvertsWithin, name_of_global, name_of_op, PlainAs, InitAs, FormAs, FormsAs, RootAs, RootsAs, DefaultAs, IsTranslated}
+use Rattle.cps_conversion.specs.Conversion.{Translation, ConvertsWithin, InitAs, FormAs, FormsAs, RootAs, RootsAs, DefaultAs, IsTranslated}
 use Rattle.conversion_laws.specs.Owed.{IsOwed}
 use Rattle.conversion_laws.proofs.Roots.{has_default, first_at, Ranked, ranked, zero_plus, gap}
 use Rattle.conversion_loads.specs.Loaded.{LoadsAreFew}
-use Rattle.conversion_loads.proofs.Free.{Free, FreeCont, ArgOk, term_used, nothing_used, no_procs, free_made, plain_free, values_free, within_free}
+use Rattle.conversion_loads.proofs.Free.{Free, ArgOk, term_used, nothing_used, no_procs, free_made, plain_free, values_free, within_free}
 use Rattle.conversion_loads.proofs.Opened.{NoProc, procs_none}
 use Rattle.conversion_loads.proofs.Sums.{Sum, Within, LamLight, Light, Behind, behind, made, parts_none, lams_none, Lams}
-use Rattle.conversion_loads.proofs.Weigh.{Ctx, Costs, front_least, simple_light, lam_light, within_light}
+use Rattle.conversion_loads.proofs.Weigh.{Ctx, front_least, simple_light, lam_light, within_light}
 use Rattle.conversion_loads.proofs.Trees.{weight, weighs, root_within}
 
 module _ (x : Translation) (w : IsWhole x.unit) (tr : IsTranslated x) (owed : IsOwed x.cps) where
@@ -72,7 +71,7 @@ module _ (x : Translation) (w : IsWhole x.unit) (tr : IsTranslated x) (owed : Is
         let z = h.over.1 in
         values_free x y Q n (within_free x y Q n) at [] [] (None ∷ []) (f.root ∷ []) (h.over.0 ∷ []) t z.last z.inner not_in
         (λ given q. plain_free x y Q n (within_free x y Q n) z.last (Step.GlobalInit g h.over.0 (Continuation.Lam h.unused next)) (Continuation.Lam h.unused next) z.stands given refl refl refl not_in
-            (λ r. rest (global_ok y Q (slice_get x.cps.shared.globals.items g) a h.gives) r.0) q) z.values
+        (λ r. rest (global_ok y Q (slice_get x.cps.shared.globals.items g) a h.gives) r.0) q) z.values
 
     form_free : (at : ℕ) (f : Form) (kind : FormKind) (p : Option Procedure) (t next : ℕ) (a : Arg) → (ArgOk x y Q a → Free x next y → Q) → FormAs x (ConvertsWithin x tr.depth) at kind p f.root t next a → Free x t y → Q
     form_free at f (Define g) (Some p) t next a rest h r = rest (global_ok y Q (slice_get x.cps.shared.globals.items g) a h.2) (subst (λ u. Free x u y) (sym h.0) r)

@@ -1,7 +1,6 @@
 -- The terms that stand for a node weigh no more than the nodes under it.
 use Rattle.std.specs.Prelude.{sum_by}
-use Rattle.std.specs.List.{AllByRecursion, filter_map, flat_map}
-use Rattle.std.specs.Option.{option_map_or}
+use Rattle.std.specs.List.{AllByRecursion, filter_map}
 use Rattle.std.proofs.Common.{◌≡◌, ◌==◌, ◌||◌, ◌≤◌, ◌+◌, ◌*◌, ℕ, zero, suc, Bool, true, false, if◌then◌else◌, ◌⊎◌, inl, inr, List, [], ◌∷◌, ◌++◌, length, map, Option, Some, None, slice_get, refl, sym, ap, ◌∙◌, subst, arith}
 use Rattle.std.proofs.lemmas.Bool.{true≢false, false≢true, eqb-true}
 use Rattle.t_base.specs.declared.basics.Var.{Var}
@@ -19,16 +18,16 @@ use Rattle.cps_ir.specs.declared.terms.Lam.{Lam}
 use Rattle.cps_ir.specs.declared.terms.Term.{Term}
 use Rattle.cps_ir.specs.declared.terms.Term.TheVariants as Step
 use Rattle.cps_ir.specs.Terms.{args_of, cont_of}
-use Rattle.cps_ir.specs.Parts.{Name, Named, JoinK, place_variable, Part, part, depth_of, named, proc_of, procs_of, lams_of, around, own_parts, cont_parts, is_assigned as cps_assigned}
-use Rattle.cps_ir.specs.Reaches.{is_in, without, labels_of}
-use Rattle.cps_ir.specs.Loads.{one_if, kind_weight, proc_weight, escape_of, cont_param, open_weight, label_weight, opened, occurring, opened_at, params_weight}
-use Rattle.cps_ir.proofs.ProperLists.{some_same, none_some}
+use Rattle.cps_ir.specs.Parts.{Name, Named, JoinK, place_variable, part, depth_of, named, proc_of, procs_of, lams_of, around, own_parts, cont_parts, is_assigned as cps_assigned}
+use Rattle.cps_ir.specs.Reaches.{is_in, labels_of}
+use Rattle.cps_ir.specs.Loads.{one_if, kind_weight, proc_weight, escape_of, cont_param, open_weight, label_weight, opened, occurring, opened_at}
+use Rattle.cps_ir.proofs.ProperLists.{some_same}
 use Rattle.cps_ir.proofs.Loose.{split_in}
 use Rattle.cps_ir.proofs.Counts.{tot, sum_tot}
 use Rattle.cps_order.specs.Order.{tally}
-use Rattle.cps_conversion.specs.Conversion.{Translation, Stands, Converting, Assigned, IsNew, AreNew, variables, adding, adding_assigned, is_proc, ready_at, nowhere, ready_arg, IsBound, Values, OverAll, OverOne, LamAs, LamAt, LambdaAt, WithName, LambdaFor, IfAs, BlockAs, own_place, LetAs, unset, Names, Sets, LambdaNode, LambdaNodes, LabelsAs, CatchAs, MethodsAs, ObjectAs, CallAs, PrimAs, ConvertsNode, ConvertsWithin}
+use Rattle.cps_conversion.specs.Conversion.{Translation, Stands, Converting, Assigned, IsNew, variables, adding, adding_assigned, is_proc, nowhere, Values, OverAll, LamAs, LamAt, WithName, LambdaFor, IfAs, BlockAs, own_place, LetAs, unset, Names, Sets, LambdaNode, LambdaNodes, LabelsAs, CatchAs, MethodsAs, ObjectAs, ConvertsNode, ConvertsWithin}
 use Rattle.conversion_laws.specs.Owed.{listed_binders}
-use Rattle.conversion_loads.proofs.Free.{Free, FreeCont, ArgOk, VarOk, adding_in, ready_ok, values_free, sets_free, within_free, let_free, if_free, block_free, labels_behind, catch_inner, object_last, plain_free}
+use Rattle.conversion_loads.proofs.Free.{Free, FreeCont, ArgOk, VarOk, adding_in, ready_ok, values_free, sets_free, within_free, let_free, if_free, block_free, object_last, plain_free}
 use Rattle.conversion_loads.proofs.Opened.{NoProc, procs_none, opened_free, opened_behind, adding_old, adding_more, head_in, each_added, assigned_old, each_assigned, KName, clash, own_clash}
 use Rattle.conversion_loads.proofs.Sums.{Light, Behind, Parts, Lams, LamLight, behind, lighter, parts_none, parts_more, lams_none, lams_more, front, made}
 use Rattle.conversion_loads.proofs.Params.{assigned_count, same_assigned, params_fewer}
@@ -285,8 +284,8 @@ module _ (x : Translation) (same : (v : Var) → cps_assigned x.cps v.0 ≡ is_a
         let fewer = params_fewer x same (is_in (opened_at x.cps lam.body)) bound bound (adding lam.params bound) params lam.params lam.body h.start h.assigned h.names_new (λ z un e. e)
         (each_member (λ (y : Var). is_in (opened_at x.cps lam.body) y.0 ≡ true → is_in (adding params bound) y.0 ≡ true) lam.params
         (λ y member e. within_free x y.0 (is_in (adding params bound) y.0 ≡ true) n form (adding params bound) (adding params bound) body (Continuation.Var lam.k) h.start (λ q. q)
-            (λ q. absurd (own_clash x once y.0 l lam s member q)) h.body_as
-            (opened_behind x same y.0 (adding lam.params bound) params (variables lam.params) lam.body h.start (variables_plain lam.params) h.assigned (depth_of x.cps) e))) in
+        (λ q. absurd (own_clash x once y.0 l lam s member q)) h.body_as
+        (opened_behind x same y.0 (adding lam.params bound) params (variables lam.params) lam.body h.start (variables_plain lam.params) h.assigned (depth_of x.cps) e))) in
         record {
           below = assigned_count x same params + b.0;
           fits = omega (arith, weight, fewer, count, le, be);
@@ -345,13 +344,13 @@ module _ (x : Translation) (same : (v : Var) → cps_assigned x.cps v.0 ≡ is_a
         over_light form bound held (test ∷ []) (value ∷ []) (Step.If value h.first_at h.second_at) u (1 + a.0 + b.0) p ctx.inside
         (λ v s y Q r given q. if_free x y Q n (within_free x y Q n) form bound held first second k value h.first_at h.second_at v (λ e. r (inl (ctx.inside y e))) (λ e. r (ctx.cont y e)) h.first_as h.second_as given s q)
         (λ plain v s.
-            made x.cps cap v (Step.If value h.first_at h.second_at) 1 0 (a.0 + b.0) (1 + a.0 + b.0) s (one_front value h.first_at h.second_at (procs_none x (value ∷ []) plain))
-            (subst (Lams x.cps cap 0 []) (sym (procs_none x (value ∷ []) plain)) (lams_none x.cps cap []))
-            (parts_more x.cps cap a.0 b.0 (a.0 + b.0) (part h.first_at [] []) (part h.second_at [] [] ∷ []) (omega arith)
-            (behind x.cps cap a.0 h.first_at (go form bound held first k h.first_at 0 a.0 ctx tt (omega (arith, ae)) (omega (arith, ae, le, small)) h.first_as))
-            (parts_more x.cps cap b.0 0 b.0 (part h.second_at [] []) [] (omega arith)
-            (behind x.cps cap b.0 h.second_at (go form bound held second k h.second_at 0 b.0 ctx tt (omega (arith, be)) (omega (arith, be, le, small)) h.second_as)) (parts_none x.cps cap)))
-            (omega arith) (omega (arith, ae, be, le, small)))
+        made x.cps cap v (Step.If value h.first_at h.second_at) 1 0 (a.0 + b.0) (1 + a.0 + b.0) s (one_front value h.first_at h.second_at (procs_none x (value ∷ []) plain))
+        (subst (Lams x.cps cap 0 []) (sym (procs_none x (value ∷ []) plain)) (lams_none x.cps cap []))
+        (parts_more x.cps cap a.0 b.0 (a.0 + b.0) (part h.first_at [] []) (part h.second_at [] [] ∷ []) (omega arith)
+        (behind x.cps cap a.0 h.first_at (go form bound held first k h.first_at 0 a.0 ctx tt (omega (arith, ae)) (omega (arith, ae, le, small)) h.first_as))
+        (parts_more x.cps cap b.0 0 b.0 (part h.second_at [] []) [] (omega arith)
+        (behind x.cps cap b.0 h.second_at (go form bound held second k h.second_at 0 b.0 ctx tt (omega (arith, be)) (omega (arith, be, le, small)) h.second_as)) (parts_none x.cps cap)))
+        (omega arith) (omega (arith, ae, be, le, small)))
         (omega (arith, ae, be, le)) small h.over.1
       where
         one_front : (a : Arg) (s t : ℕ) → procs_of (Step.If a s t) ≡ [] → front x.cps cap (Step.If a s t) ≤ 1
@@ -420,7 +419,7 @@ module _ (x : Translation) (same : (v : Var) → cps_assigned x.cps v.0 ≡ is_a
             within_free x h.name.0 ⊥ n form (v.0 ∷ bound) (v.0 ∷ held) body (Continuation.Lam h.value h.end) h.start
             (λ e. in_bound (v.0 == h.name.0) refl e)
             (λ r. plain_free x h.name.0 ⊥ n (within_free x h.name.0 ⊥ n) h.end (Step.Uncatch (Continuation.Var j) (Argument.Var h.value)) (Continuation.Var j) h.ends ((λ q. absurd (true≢false (sym q ∙ r.1))), tt) refl refl refl
-                (λ e. absurd (false≢true e)) (λ f. in_cont (ctx.cont h.name.0 f)) r.0)
+            (λ e. absurd (false≢true e)) (λ f. in_cont (ctx.cont h.name.0 f)) r.0)
             h.body_as
           where
             in_bound : (b : Bool) → (v.0 == h.name.0) ≡ b → (b || is_in bound h.name.0) ≡ true → ⊥
@@ -470,8 +469,8 @@ module _ (x : Translation) (same : (v : Var) → cps_assigned x.cps v.0 ≡ is_a
         over_light form bound held (proc ∷ []) (value ∷ []) (Step.Object value h.ops h.lams k) t ml m ctx.inside
         (λ u s y Q z given q. object_last x y Q n (within_free x y Q n) form bound methods h.ops h.lams k value u (λ e. z (inl (ctx.inside y e))) (λ e. z (ctx.cont y e)) h.methods_as given s q)
         (λ plain u s.
-            made x.cps cap u (Step.Object value h.ops h.lams k) (length (cont_param (Some k))) r.0 c.0 ml s (front_least (Step.Object value h.ops h.lams k) (cont_param (Some k)) refl (procs_none x (value ∷ []) plain) refl refl)
-            (subst (λ ls. Lams x.cps cap r.0 [] (ls ++ h.lams)) (sym (procs_none x (value ∷ []) plain)) r.1) c.1 (omega (arith, fits)) (omega (arith, le, rl, small)))
+        made x.cps cap u (Step.Object value h.ops h.lams k) (length (cont_param (Some k))) r.0 c.0 ml s (front_least (Step.Object value h.ops h.lams k) (cont_param (Some k)) refl (procs_none x (value ∷ []) plain) refl refl)
+        (subst (λ ls. Lams x.cps cap r.0 [] (ls ++ h.lams)) (sym (procs_none x (value ∷ []) plain)) r.1) c.1 (omega (arith, fits)) (omega (arith, le, rl, small)))
         (omega (arith, le, rl)) small h.over.1
 
     -- ---- LABELS
