@@ -559,15 +559,15 @@ module _ (x : Translation) (same : (v : Var) → cps_assigned x.cps v.0 ≡ is_a
     lambda_nodes form bound (key ∷ keys) [] names small h = absurd h
 
     -- an assigned one is held, and another one is its own name
-    vars_in : (y : ℕ) (vars names : List Var) (held all : List ℕ) → Names x.unit vars names → ((z : Var) → is_assigned x.unit z ≡ true → AllByRecursion (λ (v : Var). (v.0 == y) ≡ true → is_assigned x.unit v ≡ true → is_in all y ≡ true) vars) → AllByRecursion (λ (v : Var). (v.0 == y) ≡ true → is_in all y ≡ true) names → AllByRecursion (λ (v : Var). (v.0 == y) ≡ true → is_in all y ≡ true) vars
-    vars_in y [] [] held all h a o = tt
-    vars_in y (v ∷ vars) (z ∷ names) held all h a o = (by h.0, vars_in y vars names held all h.1 (λ u e. (a u e).1) o.1)
+    vars_in : (y : ℕ) (vars names : List Var) (all : List ℕ) → Names x.unit vars names → AllByRecursion (λ (v : Var). (v.0 == y) ≡ true → is_assigned x.unit v ≡ true → is_in all y ≡ true) vars → AllByRecursion (λ (v : Var). (v.0 == y) ≡ true → is_in all y ≡ true) names → AllByRecursion (λ (v : Var). (v.0 == y) ≡ true → is_in all y ≡ true) vars
+    vars_in y [] [] all h a o = tt
+    vars_in y (v ∷ vars) (z ∷ names) all h a o = (by h.0, vars_in y vars names all h.1 a.1 o.1)
       where
         by : (is_assigned x.unit v ≡ true) ⊎ (z ≡ v) → (v.0 == y) ≡ true → is_in all y ≡ true
-        by (inl e) q = (a v e).0 q e
+        by (inl e) q = a.0 q e
         by (inr e) q = o.0 (subst (λ (u : Var). (u.0 == y) ≡ true) (sym e) q)
-    vars_in y [] (z ∷ names) held all h a o = absurd h
-    vars_in y (v ∷ vars) [] held all h a o = absurd h
+    vars_in y [] (z ∷ names) all h a o = absurd h
+    vars_in y (v ∷ vars) [] all h a o = absurd h
 
     each_later : (y : ℕ) (names vars : List Var) (held : List ℕ) → AllByRecursion (λ (v : Var). is_assigned x.unit v ≡ true → (v.0 == y) ≡ true → is_in held y ≡ true) vars → AllByRecursion (λ (v : Var). (v.0 == y) ≡ true → is_assigned x.unit v ≡ true → is_in (adding names held) y ≡ true) vars
     each_later y names [] held h = tt
@@ -596,7 +596,7 @@ module _ (x : Translation) (same : (v : Var) → cps_assigned x.cps v.0 ≡ is_a
         all_held = adding h.names (adding_assigned x.unit vars held)
 
         each_var : EachIn all_held vars
-        each_var y = vars_in y vars h.names held all_held h.names_for (λ z e. each_later y h.names vars (adding_assigned x.unit vars held) (each_assigned x y vars held)) (each_added x y h.names (adding_assigned x.unit vars held))
+        each_var y = vars_in y vars h.names all_held h.names_for (each_later y h.names vars (adding_assigned x.unit vars held) (each_assigned x y vars held)) (each_added x y h.names (adding_assigned x.unit vars held))
 
         from_held : (y : ℕ) → is_in held y ≡ true → is_in all_held y ≡ true
         from_held y e = adding_old x y h.names (adding_assigned x.unit vars held) (assigned_old x y vars held e)
