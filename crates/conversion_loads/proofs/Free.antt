@@ -1,7 +1,7 @@
 -- What is free in the terms that stand for a node: variables that are bound around it, and those of its continuation.
 use Rattle.std.specs.List.{AllByRecursion, filter_map, flat_map, cons_option}
 use Rattle.std.specs.Option.{option_map_or, option_and_then}
-use Rattle.std.proofs.Common.{◌≡◌, ◌==◌, ◌||◌, ℕ, zero, suc, Bool, true, false, if◌then◌else◌, ◌⊎◌, inl, inr, List, [], ◌∷◌, ◌++◌, map, nat_lt, Option, Some, None, slice_get, refl, sym, ap, ◌∙◌, subst, arith}
+use Rattle.std.proofs.Common.{◌≡◌, ◌==◌, ◌||◌, ℕ, zero, suc, Bool, true, false, if◌then◌else◌, ◌⊎◌, inl, inr, List, [], ◌∷◌, ◌++◌, map, nat_lt, Option, Some, None, slice_get, refl, sym, ◌∙◌, subst}
 use Rattle.std.proofs.lemmas.Bool.{true≢false, false≢true, eqb-true}
 use Rattle.t_base.specs.declared.basics.Var.{Var}
 use Rattle.t_base.specs.declared.shared_parts.Const.TheVariants as Constant
@@ -18,12 +18,12 @@ use Rattle.cps_ir.specs.declared.terms.Lam.{Lam}
 use Rattle.cps_ir.specs.declared.terms.Term.{Term}
 use Rattle.cps_ir.specs.declared.terms.Term.TheVariants as Step
 use Rattle.cps_ir.specs.Terms.{args_of, cont_of}
-use Rattle.cps_ir.specs.Parts.{place_variable, Name, OwnK, Part, named, variable_of, proc_of, lams_of, lambda_at, lambda_part, around, own_parts, parts_of, first_lams, used_by, arg_variables, cont_variable, cont_parts, lam_binders}
+use Rattle.cps_ir.specs.Parts.{place_variable, Name, OwnK, Part, named, variable_of, proc_of, lams_of, lambda_at, lambda_part, around, own_parts, parts_of, first_lams, used_by, arg_variables, cont_variable, cont_parts}
 use Rattle.cps_ir.specs.Reaches.{is_in, without, binds_of, free_within}
 use Rattle.cps_ir.proofs.ProperLists.{some_same, none_some, each_append}
 use Rattle.cps_ir.proofs.Inside.{from_without}
 use Rattle.cps_ir.proofs.Loose.{split_in}
-use Rattle.cps_conversion.specs.Conversion.{Translation, Stands, Converting, Assigned, variables, adding, adding_assigned, is_proc, ready_at, nowhere, ready_arg, IsBound, Values, OverAll, OverOne, LamAs, LamAt, LambdaAt, WithName, LambdaFor, IfAs, BlockAs, own_place, LetAs, unset, Names, Sets, LambdaNode, LambdaNodes, LabelsAs, CatchAs, MethodsAs, ObjectAs, CallAs, PrimAs, ConvertsNode, ConvertsWithin}
+use Rattle.cps_conversion.specs.Conversion.{Translation, Stands, Converting, Assigned, variables, adding, adding_assigned, is_proc, ready_at, nowhere, ready_arg, IsBound, Values, OverAll, LamAs, LamAt, WithName, LambdaFor, IfAs, BlockAs, own_place, unset, Names, Sets, LambdaNode, LambdaNodes, LabelsAs, CatchAs, MethodsAs, ConvertsNode, ConvertsWithin}
 
 module _ (x : Translation) where
   -- free in the term at a place, at some depth
@@ -362,9 +362,9 @@ module _ (x : Translation) where
       pub labels_free : (form : ℕ) (bound held : List ℕ) (vars : List Var) (keys : List ℕ) (body : ℕ) (k : Cont) (t : ℕ) → (is_in bound y ≡ true → Q) → (FreeCont k y → Q) → LabelsAs x conv form bound held vars keys body k t → Free t y → Q
       labels_free form bound held vars keys body k t b f h =
           unset_free held vars t h.at (λ assigned.
-              free_made h.at (Step.Labels h.names h.lams h.behind) h.stands nothing_used
-              (lambda_nodes form (adding vars bound) keys h.lams h.names (λ ns. adding_in vars bound (names_vars vars h.names h.names_for assigned ns) b) h.lambdas)
-              ((λ r out. labels_behind form bound held vars keys body k t b f h assigned (names_out h.names out) r), tt))
+          free_made h.at (Step.Labels h.names h.lams h.behind) h.stands nothing_used
+          (lambda_nodes form (adding vars bound) keys h.lams h.names (λ ns. adding_in vars bound (names_vars vars h.names h.names_for assigned ns) b) h.lambdas)
+          ((λ r out. labels_behind form bound held vars keys body k t b f h assigned (names_out h.names out) r), tt))
           h.unset
 
       -- ---- CATCH, OBJECT
@@ -373,7 +373,7 @@ module _ (x : Translation) where
       catch_inner form bound held v body k t b f h name =
           assigned_free (h.name.0 ∷ held) (v ∷ []) (Argument.Var h.name ∷ []) h.inner h.start (name, tt)
           (λ vs. go form (v.0 ∷ bound) (v.0 ∷ held) body (Continuation.Lam h.value h.end) h.start (adding_in (v ∷ []) bound vs b)
-              (λ r. plain_free h.end (Step.Uncatch k (Argument.Var h.value)) k h.ends ((λ q. absurd (true≢false (sym q ∙ r.1))), tt) refl refl refl nothing_used f r.0) h.body_as)
+          (λ r. plain_free h.end (Step.Uncatch k (Argument.Var h.value)) k h.ends ((λ q. absurd (true≢false (sym q ∙ r.1))), tt) refl refl refl nothing_used f r.0) h.body_as)
           h.assigned
 
       catch_free : (form : ℕ) (bound held : List ℕ) (v : Var) (body : ℕ) (k : Cont) (t : ℕ) → (is_in bound y ≡ true → Q) → (FreeCont k y → Q) → CatchAs x conv form bound held v body k t → Free t y → Q

@@ -4,3 +4,4 @@ pub mod Sums
 pub mod Params
 pub mod Weigh
 pub mod Trees
+pub mod Forms

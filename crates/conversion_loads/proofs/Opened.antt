@@ -2,7 +2,7 @@
 use Rattle.std.specs.List.{AllByRecursion, filter_map, flat_map}
 use Rattle.std.specs.Option.{option_map_or}
 use Rattle.std.proofs.Common.{◌≡◌, ◌==◌, ◌||◌, ◌≤◌, ◌+◌, ℕ, zero, suc, Bool, true, false, if◌then◌else◌, ◌⊎◌, inl, inr, List, [], ◌∷◌, ◌++◌, length, map, Option, Some, None, slice_get, refl, sym, ap, ◌∙◌, subst, arith}
-use Rattle.std.proofs.lemmas.Bool.{true≢false, false≢true, eqb-true}
+use Rattle.std.proofs.lemmas.Bool.{false≢true}
 use Rattle.t_base.specs.declared.basics.Var.{Var}
 use Rattle.t_meaning.specs.Costs.{is_assigned}
 use Rattle.cps_ir.specs.declared.args.Arg.{Arg}
@@ -18,9 +18,9 @@ use Rattle.cps_ir.proofs.ProperLists.{none_some, some_same}
 use Rattle.cps_ir.proofs.Inside.{from_without, in_without}
 use Rattle.cps_ir.proofs.Loose.{split_in}
 use Rattle.cps_order.specs.Order.{one, tally}
-use Rattle.cps_conversion.specs.Conversion.{Translation, Stands, Assigned, IsNew, AreNew, variables, adding, adding_assigned}
+use Rattle.cps_conversion.specs.Conversion.{Translation, Stands, Assigned, adding, adding_assigned}
 use Rattle.conversion_laws.specs.Owed.{listed_binders}
-use Rattle.conversion_loads.proofs.Free.{Free, FreeCont, ArgOk}
+use Rattle.conversion_loads.proofs.Free.{Free, ArgOk}
 
 module _ (x : Translation) where
   -- an argument that is no procedure

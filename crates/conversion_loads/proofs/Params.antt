@@ -1,16 +1,15 @@
 -- A parameter that stands for an assigned one weighs nothing.
 use Rattle.std.specs.List.{AllByRecursion}
-use Rattle.std.proofs.Common.{◌≡◌, ◌==◌, ◌||◌, ◌≤◌, ◌+◌, ℕ, zero, suc, Bool, true, false, ◌⊎◌, inl, inr, List, [], ◌∷◌, length, map, refl, sym, ap, ◌∙◌, subst, arith}
-use Rattle.std.proofs.lemmas.Bool.{true≢false, false≢true, eqb-true}
+use Rattle.std.proofs.Common.{◌≡◌, ◌==◌, ◌||◌, ◌≤◌, ◌+◌, ℕ, Bool, true, false, inl, inr, List, [], ◌∷◌, length, refl, sym, ap, ◌∙◌, subst, arith}
+use Rattle.std.proofs.lemmas.Bool.{true≢false, eqb-true}
 use Rattle.t_base.specs.declared.basics.Var.{Var}
 use Rattle.t_meaning.specs.Costs.{is_assigned}
-use Rattle.cps_ir.specs.declared.args.Arg.{Arg}
 use Rattle.cps_ir.specs.declared.args.Arg.TheVariants as Argument
 use Rattle.cps_ir.specs.Parts.{is_assigned as cps_assigned}
 use Rattle.cps_ir.specs.Reaches.{is_in}
 use Rattle.cps_ir.specs.Loads.{one_if}
 use Rattle.cps_ir.proofs.Counts.{tot}
-use Rattle.cps_conversion.specs.Conversion.{Translation, Assigned, IsNew, AreNew, variables, adding}
+use Rattle.cps_conversion.specs.Conversion.{Translation, Assigned, AreNew, variables, adding}
 
 module _ (x : Translation) (same : (v : Var) → cps_assigned x.cps v.0 ≡ is_assigned x.unit v) where
   abbrev pub assigned_count : List Var → ℕ

@@ -1,9 +1,7 @@
 -- What the nodes of a form weigh, by the node that names them.
-use Rattle.std.specs.Prelude.{sum_by, All}
-use Rattle.std.specs.List.{AllByRecursion, flat_map}
+use Rattle.std.specs.Prelude.{sum_by}
 use Rattle.std.specs.Option.{option_map_or, option_and_then}
-use Rattle.std.proofs.Common.{◌≡◌, ◌≤◌, ◌<◌, ◌+◌, ◌*◌, ℕ, zero, suc, Bool, true, false, List, [], ◌∷◌, ◌++◌, length, map, Option, Some, None, slice_get, refl, sym, ap, ◌∙◌, subst, arith}
-use Rattle.std.proofs.lemmas.Option.{slice_get_within}
+use Rattle.std.proofs.Common.{◌≡◌, ◌≤◌, ◌<◌, ◌+◌, ℕ, zero, suc, true, false, List, [], ◌∷◌, ◌++◌, length, map, Option, Some, None, slice_get, refl, sym, ap, subst, arith}
 use Rattle.std.proofs.lemmas.List.Sums.{sum_by-cons}
 use Rattle.t_base.specs.declared.shared_parts.Const.{Const}
 use Rattle.t_core.specs.declared.forms.Core.{Core}
@@ -15,8 +13,8 @@ use Rattle.t_core.specs.Nodes.{Part, part, early, block_parts, places_of}
 use Rattle.t_core.specs.Counts.{Pairs, nodes_within, datum_nodes, parts as datum_parts, node_count, definition_count, form_count, method_nodes}
 use Rattle.t_core.specs.Whole.{IsTree, HasPlaces, IsWhole}
 use Rattle.t_meaning.specs.Programs.{node_at}
-use Rattle.cps_ir.proofs.ProperLists.{some_same, none_some, all_at}
-use Rattle.cps_ir.proofs.Counts.{tot, sum_tot, tot_append, tot_map}
+use Rattle.cps_ir.proofs.ProperLists.{none_some, all_at}
+use Rattle.cps_ir.proofs.Counts.{tot, sum_tot}
 use Rattle.expand_laws.proofs.TreeSums.{total as tree_total, total_is, total_of_root}
 use Rattle.conversion_laws.proofs.Widths.{in_greatest}
 use Rattle.conversion_loads.proofs.Weigh.{total}

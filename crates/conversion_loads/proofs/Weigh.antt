@@ -1,7 +1,6 @@
 -- The terms that stand for a node weigh no more than the nodes under it.
 use Rattle.std.specs.Prelude.{sum_by}
-use Rattle.std.specs.List.{AllByRecursion, filter_map, flat_map}
-use Rattle.std.specs.Option.{option_map_or}
+use Rattle.std.specs.List.{AllByRecursion, filter_map}
 use Rattle.std.proofs.Common.{◌≡◌, ◌==◌, ◌||◌, ◌≤◌, ◌+◌, ◌*◌, ℕ, zero, suc, Bool, true, false, if◌then◌else◌, ◌⊎◌, inl, inr, List, [], ◌∷◌, ◌++◌, length, map, Option, Some, None, slice_get, refl, sym, ap, ◌∙◌, subst, arith}
 use Rattle.std.proofs.lemmas.Bool.{true≢false, false≢true, eqb-true}
 use Rattle.t_base.specs.declared.basics.Var.{Var}
@@ -19,16 +18,16 @@ use Rattle.cps_ir.specs.declared.terms.Lam.{Lam}
 use Rattle.cps_ir.specs.declared.terms.Term.{Term}
 use Rattle.cps_ir.specs.declared.terms.Term.TheVariants as Step
 use Rattle.cps_ir.specs.Terms.{args_of, cont_of}
-use Rattle.cps_ir.specs.Parts.{Name, Named, JoinK, place_variable, Part, part, depth_of, named, proc_of, procs_of, lams_of, around, own_parts, cont_parts, is_assigned as cps_assigned}
-use Rattle.cps_ir.specs.Reaches.{is_in, without, labels_of}
-use Rattle.cps_ir.specs.Loads.{one_if, kind_weight, proc_weight, escape_of, cont_param, open_weight, label_weight, opened, occurring, opened_at, params_weight}
-use Rattle.cps_ir.proofs.ProperLists.{some_same, none_some}
+use Rattle.cps_ir.specs.Parts.{Name, Named, JoinK, place_variable, part, depth_of, named, proc_of, procs_of, lams_of, around, own_parts, cont_parts, is_assigned as cps_assigned}
+use Rattle.cps_ir.specs.Reaches.{is_in, labels_of}
+use Rattle.cps_ir.specs.Loads.{one_if, kind_weight, proc_weight, escape_of, cont_param, open_weight, label_weight, opened, occurring, opened_at}
+use Rattle.cps_ir.proofs.ProperLists.{some_same}
 use Rattle.cps_ir.proofs.Loose.{split_in}
 use Rattle.cps_ir.proofs.Counts.{tot, sum_tot}
 use Rattle.cps_order.specs.Order.{tally}
-use Rattle.cps_conversion.specs.Conversion.{Translation, Stands, Converting, Assigned, IsNew, AreNew, variables, adding, adding_assigned, is_proc, ready_at, nowhere, ready_arg, IsBound, Values, OverAll, OverOne, LamAs, LamAt, LambdaAt, WithName, LambdaFor, IfAs, BlockAs, own_place, LetAs, unset, Names, Sets, LambdaNode, LambdaNodes, LabelsAs, CatchAs, MethodsAs, ObjectAs, CallAs, PrimAs, ConvertsNode, ConvertsWithin}
+use Rattle.cps_conversion.specs.Conversion.{Translation, Stands, Converting, Assigned, IsNew, variables, adding, adding_assigned, is_proc, nowhere, Values, OverAll, LamAs, LamAt, WithName, LambdaFor, IfAs, BlockAs, own_place, LetAs, unset, Names, Sets, LambdaNode, LambdaNodes, LabelsAs, CatchAs, MethodsAs, ObjectAs, ConvertsNode, ConvertsWithin}
 use Rattle.conversion_laws.specs.Owed.{listed_binders}
-use Rattle.conversion_loads.proofs.Free.{Free, FreeCont, ArgOk, VarOk, adding_in, ready_ok, values_free, sets_free, within_free, let_free, if_free, block_free, labels_behind, catch_inner, object_last, plain_free}
+use Rattle.conversion_loads.proofs.Free.{Free, FreeCont, ArgOk, VarOk, adding_in, ready_ok, values_free, sets_free, within_free, let_free, if_free, block_free, object_last, plain_free}
 use Rattle.conversion_loads.proofs.Opened.{NoProc, procs_none, opened_free, opened_behind, adding_old, adding_more, head_in, each_added, assigned_old, each_assigned, KName, clash, own_clash}
 use Rattle.conversion_loads.proofs.Sums.{Light, Behind, Parts, Lams, LamLight, behind, lighter, parts_none, parts_more, lams_none, lams_more, front, made}
 use Rattle.conversion_loads.proofs.Params.{assigned_count, same_assigned, params_fewer}
@@ -112,7 +111,7 @@ module _ (x : Translation) (same : (v : Var) → cps_assigned x.cps v.0 ≡ is_a
   nothing_times : (n : ℕ) → n * 0 ≡ 0
   nothing_times n = omega arith
 
-  front_least : (term : Term) (xs : List ℕ) → kind_weight term ≡ 0 → procs_of term ≡ [] → labels_of term ≡ [] → escape_of term ++ cont_param (cont_of term) ≡ xs → front x.cps cap term ≤ length xs
+  pub front_least : (term : Term) (xs : List ℕ) → kind_weight term ≡ 0 → procs_of term ≡ [] → labels_of term ≡ [] → escape_of term ++ cont_param (cont_of term) ≡ xs → front x.cps cap term ≤ length xs
   front_least term xs k p l e =
       let a : proc_weight term * length (procs_of term) ≡ 0 = ap (λ ls. proc_weight term * length ls) p ∙ nothing_times (proc_weight term) in
       let b : sum_by (label_weight x.cps term) (labels_of term) ≡ 0 = ap (sum_by (label_weight x.cps term)) l in
@@ -285,8 +284,8 @@ module _ (x : Translation) (same : (v : Var) → cps_assigned x.cps v.0 ≡ is_a
         let fewer = params_fewer x same (is_in (opened_at x.cps lam.body)) bound bound (adding lam.params bound) params lam.params lam.body h.start h.assigned h.names_new (λ z un e. e)
         (each_member (λ (y : Var). is_in (opened_at x.cps lam.body) y.0 ≡ true → is_in (adding params bound) y.0 ≡ true) lam.params
         (λ y member e. within_free x y.0 (is_in (adding params bound) y.0 ≡ true) n form (adding params bound) (adding params bound) body (Continuation.Var lam.k) h.start (λ q. q)
-            (λ q. absurd (own_clash x once y.0 l lam s member q)) h.body_as
-            (opened_behind x same y.0 (adding lam.params bound) params (variables lam.params) lam.body h.start (variables_plain lam.params) h.assigned (depth_of x.cps) e))) in
+        (λ q. absurd (own_clash x once y.0 l lam s member q)) h.body_as
+        (opened_behind x same y.0 (adding lam.params bound) params (variables lam.params) lam.body h.start (variables_plain lam.params) h.assigned (depth_of x.cps) e))) in
         record {
           below = assigned_count x same params + b.0;
           fits = omega (arith, weight, fewer, count, le, be);
@@ -296,7 +295,7 @@ module _ (x : Translation) (same : (v : Var) → cps_assigned x.cps v.0 ≡ is_a
               (omega arith) (omega (arith, be, le, small, few)) h.assigned);
         }
 
-    lam_light : (form : ℕ) (bound : List ℕ) (params : List Var) (body l m : ℕ) → LamAt x conv form bound params body l → length params + w form body ≤ suc m → m ≤ cap → (lam : Lam) → slice_get x.cps.lams.items l ≡ Some lam → LamLight x.cps cap m lam
+    pub lam_light : (form : ℕ) (bound : List ℕ) (params : List Var) (body l m : ℕ) → LamAt x conv form bound params body l → length params + w form body ≤ suc m → m ≤ cap → (lam : Lam) → slice_get x.cps.lams.items l ≡ Some lam → LamLight x.cps cap m lam
     lam_light form bound params body l m h le small lam e = subst (LamLight x.cps cap m) (some_same h.0 lam (sym h.1 ∙ e)) (lam_is_light form bound params body l h.0 m h.1 h.2 le small)
 
     -- ---- nodes, by their kinds
@@ -345,13 +344,13 @@ module _ (x : Translation) (same : (v : Var) → cps_assigned x.cps v.0 ≡ is_a
         over_light form bound held (test ∷ []) (value ∷ []) (Step.If value h.first_at h.second_at) u (1 + a.0 + b.0) p ctx.inside
         (λ v s y Q r given q. if_free x y Q n (within_free x y Q n) form bound held first second k value h.first_at h.second_at v (λ e. r (inl (ctx.inside y e))) (λ e. r (ctx.cont y e)) h.first_as h.second_as given s q)
         (λ plain v s.
-            made x.cps cap v (Step.If value h.first_at h.second_at) 1 0 (a.0 + b.0) (1 + a.0 + b.0) s (one_front value h.first_at h.second_at (procs_none x (value ∷ []) plain))
-            (subst (Lams x.cps cap 0 []) (sym (procs_none x (value ∷ []) plain)) (lams_none x.cps cap []))
-            (parts_more x.cps cap a.0 b.0 (a.0 + b.0) (part h.first_at [] []) (part h.second_at [] [] ∷ []) (omega arith)
-            (behind x.cps cap a.0 h.first_at (go form bound held first k h.first_at 0 a.0 ctx tt (omega (arith, ae)) (omega (arith, ae, le, small)) h.first_as))
-            (parts_more x.cps cap b.0 0 b.0 (part h.second_at [] []) [] (omega arith)
-            (behind x.cps cap b.0 h.second_at (go form bound held second k h.second_at 0 b.0 ctx tt (omega (arith, be)) (omega (arith, be, le, small)) h.second_as)) (parts_none x.cps cap)))
-            (omega arith) (omega (arith, ae, be, le, small)))
+        made x.cps cap v (Step.If value h.first_at h.second_at) 1 0 (a.0 + b.0) (1 + a.0 + b.0) s (one_front value h.first_at h.second_at (procs_none x (value ∷ []) plain))
+        (subst (Lams x.cps cap 0 []) (sym (procs_none x (value ∷ []) plain)) (lams_none x.cps cap []))
+        (parts_more x.cps cap a.0 b.0 (a.0 + b.0) (part h.first_at [] []) (part h.second_at [] [] ∷ []) (omega arith)
+        (behind x.cps cap a.0 h.first_at (go form bound held first k h.first_at 0 a.0 ctx tt (omega (arith, ae)) (omega (arith, ae, le, small)) h.first_as))
+        (parts_more x.cps cap b.0 0 b.0 (part h.second_at [] []) [] (omega arith)
+        (behind x.cps cap b.0 h.second_at (go form bound held second k h.second_at 0 b.0 ctx tt (omega (arith, be)) (omega (arith, be, le, small)) h.second_as)) (parts_none x.cps cap)))
+        (omega arith) (omega (arith, ae, be, le, small)))
         (omega (arith, ae, be, le)) small h.over.1
       where
         one_front : (a : Arg) (s t : ℕ) → procs_of (Step.If a s t) ≡ [] → front x.cps cap (Step.If a s t) ≤ 1
@@ -384,7 +383,7 @@ module _ (x : Translation) (same : (v : Var) → cps_assigned x.cps v.0 ≡ is_a
         (go form (adding vars bound) (adding vars held) body k h.start d ms (body_ctx vars bound held k ctx) costs (omega (arith, be)) (omega (arith, be, le, small)) h.body_as) (omega arith) (omega (arith, be, le, small, few)) h.assigned)
         (omega (arith, be, le, few)) small h.values
 
-    simple_light : (form : ℕ) (bound held : List ℕ) (keys : List ℕ) (args : List Arg) (term : Term) (k : Cont) (t d m : ℕ) → Ctx bound held k → Costs d k
+    pub simple_light : (form : ℕ) (bound held : List ℕ) (keys : List ℕ) (args : List Arg) (term : Term) (k : Cont) (t d m : ℕ) → Ctx bound held k → Costs d k
         → kind_weight term ≡ 0 → args_of term ≡ args → lams_of term ≡ procs_of term → labels_of term ≡ [] → escape_of term ++ cont_param (cont_of term) ≡ cont_param (Some k) → own_parts [] term ≡ cont_parts [] (Some k) → cont_of term ≡ Some k
         → ((y : ℕ) → is_in (place_variable term) y ≡ true → is_in held y ≡ true) → tot (w form) keys + d ≤ m → m ≤ cap → OverAll x conv form bound held keys args term t → LightAt m t
     simple_light form bound held keys args term k t d m ctx costs kind as_args lams labels opens own cont place le small h =
@@ -420,7 +419,7 @@ module _ (x : Translation) (same : (v : Var) → cps_assigned x.cps v.0 ≡ is_a
             within_free x h.name.0 ⊥ n form (v.0 ∷ bound) (v.0 ∷ held) body (Continuation.Lam h.value h.end) h.start
             (λ e. in_bound (v.0 == h.name.0) refl e)
             (λ r. plain_free x h.name.0 ⊥ n (within_free x h.name.0 ⊥ n) h.end (Step.Uncatch (Continuation.Var j) (Argument.Var h.value)) (Continuation.Var j) h.ends ((λ q. absurd (true≢false (sym q ∙ r.1))), tt) refl refl refl
-                (λ e. absurd (false≢true e)) (λ f. in_cont (ctx.cont h.name.0 f)) r.0)
+            (λ e. absurd (false≢true e)) (λ f. in_cont (ctx.cont h.name.0 f)) r.0)
             h.body_as
           where
             in_bound : (b : Bool) → (v.0 == h.name.0) ≡ b → (b || is_in bound h.name.0) ≡ true → ⊥
@@ -470,8 +469,8 @@ module _ (x : Translation) (same : (v : Var) → cps_assigned x.cps v.0 ≡ is_a
         over_light form bound held (proc ∷ []) (value ∷ []) (Step.Object value h.ops h.lams k) t ml m ctx.inside
         (λ u s y Q z given q. object_last x y Q n (within_free x y Q n) form bound methods h.ops h.lams k value u (λ e. z (inl (ctx.inside y e))) (λ e. z (ctx.cont y e)) h.methods_as given s q)
         (λ plain u s.
-            made x.cps cap u (Step.Object value h.ops h.lams k) (length (cont_param (Some k))) r.0 c.0 ml s (front_least (Step.Object value h.ops h.lams k) (cont_param (Some k)) refl (procs_none x (value ∷ []) plain) refl refl)
-            (subst (λ ls. Lams x.cps cap r.0 [] (ls ++ h.lams)) (sym (procs_none x (value ∷ []) plain)) r.1) c.1 (omega (arith, fits)) (omega (arith, le, rl, small)))
+        made x.cps cap u (Step.Object value h.ops h.lams k) (length (cont_param (Some k))) r.0 c.0 ml s (front_least (Step.Object value h.ops h.lams k) (cont_param (Some k)) refl (procs_none x (value ∷ []) plain) refl refl)
+        (subst (λ ls. Lams x.cps cap r.0 [] (ls ++ h.lams)) (sym (procs_none x (value ∷ []) plain)) r.1) c.1 (omega (arith, fits)) (omega (arith, le, rl, small)))
         (omega (arith, le, rl)) small h.over.1
 
     -- ---- LABELS
@@ -560,15 +559,15 @@ module _ (x : Translation) (same : (v : Var) → cps_assigned x.cps v.0 ≡ is_a
     lambda_nodes form bound (key ∷ keys) [] names small h = absurd h
 
     -- an assigned one is held, and another one is its own name
-    vars_in : (y : ℕ) (vars names : List Var) (held all : List ℕ) → Names x.unit vars names → ((z : Var) → is_assigned x.unit z ≡ true → AllByRecursion (λ (v : Var). (v.0 == y) ≡ true → is_assigned x.unit v ≡ true → is_in all y ≡ true) vars) → AllByRecursion (λ (v : Var). (v.0 == y) ≡ true → is_in all y ≡ true) names → AllByRecursion (λ (v : Var). (v.0 == y) ≡ true → is_in all y ≡ true) vars
-    vars_in y [] [] held all h a o = tt
-    vars_in y (v ∷ vars) (z ∷ names) held all h a o = (by h.0, vars_in y vars names held all h.1 (λ u e. (a u e).1) o.1)
+    vars_in : (y : ℕ) (vars names : List Var) (all : List ℕ) → Names x.unit vars names → AllByRecursion (λ (v : Var). (v.0 == y) ≡ true → is_assigned x.unit v ≡ true → is_in all y ≡ true) vars → AllByRecursion (λ (v : Var). (v.0 == y) ≡ true → is_in all y ≡ true) names → AllByRecursion (λ (v : Var). (v.0 == y) ≡ true → is_in all y ≡ true) vars
+    vars_in y [] [] all h a o = tt
+    vars_in y (v ∷ vars) (z ∷ names) all h a o = (by h.0, vars_in y vars names all h.1 a.1 o.1)
       where
         by : (is_assigned x.unit v ≡ true) ⊎ (z ≡ v) → (v.0 == y) ≡ true → is_in all y ≡ true
-        by (inl e) q = (a v e).0 q e
+        by (inl e) q = a.0 q e
         by (inr e) q = o.0 (subst (λ (u : Var). (u.0 == y) ≡ true) (sym e) q)
-    vars_in y [] (z ∷ names) held all h a o = absurd h
-    vars_in y (v ∷ vars) [] held all h a o = absurd h
+    vars_in y [] (z ∷ names) all h a o = absurd h
+    vars_in y (v ∷ vars) [] all h a o = absurd h
 
     each_later : (y : ℕ) (names vars : List Var) (held : List ℕ) → AllByRecursion (λ (v : Var). is_assigned x.unit v ≡ true → (v.0 == y) ≡ true → is_in held y ≡ true) vars → AllByRecursion (λ (v : Var). (v.0 == y) ≡ true → is_assigned x.unit v ≡ true → is_in (adding names held) y ≡ true) vars
     each_later y names [] held h = tt
@@ -597,7 +596,7 @@ module _ (x : Translation) (same : (v : Var) → cps_assigned x.cps v.0 ≡ is_a
         all_held = adding h.names (adding_assigned x.unit vars held)
 
         each_var : EachIn all_held vars
-        each_var y = vars_in y vars h.names held all_held h.names_for (λ z e. each_later y h.names vars (adding_assigned x.unit vars held) (each_assigned x y vars held)) (each_added x y h.names (adding_assigned x.unit vars held))
+        each_var y = vars_in y vars h.names all_held h.names_for (each_later y h.names vars (adding_assigned x.unit vars held) (each_assigned x y vars held)) (each_added x y h.names (adding_assigned x.unit vars held))
 
         from_held : (y : ℕ) → is_in held y ≡ true → is_in all_held y ≡ true
         from_held y e = adding_old x y h.names (adding_assigned x.unit vars held) (assigned_old x y vars held e)
