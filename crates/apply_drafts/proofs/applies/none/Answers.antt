@@ -1,7 +1,0 @@
-use Rattle.word_drafts.proofs.Joining.{then_writes}
-use Rattle.apply_drafts.proofs.applies.none.Goals as goal
-
-pub returns : goal.returns
-returns c =
-    then_writes _ _ c.args.draft.now c.make.new.self c.look_at.new.draft c.in_ok-make.ensures
-    c.in_ok-look_at.ensures
