@@ -44,7 +44,7 @@ module _ (text bytes : List ℕ) (image : Parts) (sizes : Sizes) (steps : ℕ) (
   pub full_for : (stack : Bool) (asked left : ℕ) → (run image sizes steps).end ≡ Some (exit.Full stack asked left) → IsFullFor text image sizes steps stack
   full_for stack asked left e =
       let cost : HasCost (room_of faithful.unit sizes) (meaning_at_most faithful.unit) (Full stack asked left) =
-          ⊎_elim (λ p. absurd p.0) (λ h. h) ((keeps sizes heap stack_size).ends_only steps (Full stack asked left) (ap (option_map (end_of image.names)) e)) in
+      ⊎_elim (λ p. absurd p.0) (λ h. h) ((keeps sizes heap stack_size).ends_only steps (Full stack asked left) (ap (option_map (end_of image.names)) e)) in
       record {
         asked = asked;
         left = left;

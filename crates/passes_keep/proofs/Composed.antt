@@ -56,13 +56,13 @@ module _ (room : Room) (n : ℕ) (meant converted celled framed worded placed it
       let to_framed : Keeps (4 * (n + 8) * (1 * 5)) (4 * (n + 8) * (1 * 5 + 0) + 0) meant framed = keeps_composes (1 * 5) (1 * 5 + 0) (4 * (n + 8)) 0 meant celled framed to_celled lays in
       let selected = selects (keeps_is_safe (4 * (n + 8)) 0 celled framed lays) in
       let to_worded : KeepsWithin room (40 * (4 * (n + 8) * (1 * 5))) (40 * (4 * (n + 8) * (1 * 5 + 0) + 0) + 40) meant worded =
-          keeps_then_within room (4 * (n + 8) * (1 * 5)) (4 * (n + 8) * (1 * 5 + 0) + 0) 40 40 meant framed worded to_framed selected in
+      keeps_then_within room (4 * (n + 8) * (1 * 5)) (4 * (n + 8) * (1 * 5 + 0) + 0) 40 40 meant framed worded to_framed selected in
       let assigned = assigns (within_is_safe room 40 40 framed worded selected) in
       let to_placed : KeepsWithin room (1 * (40 * (4 * (n + 8) * (1 * 5)))) (1 * (40 * (4 * (n + 8) * (1 * 5 + 0) + 0) + 40) + 0) meant placed =
-          within_then_alike room (40 * (4 * (n + 8) * (1 * 5))) (40 * (4 * (n + 8) * (1 * 5 + 0) + 0) + 40) 1 0 meant worded placed to_worded assigned in
+      within_then_alike room (40 * (4 * (n + 8) * (1 * 5))) (40 * (4 * (n + 8) * (1 * 5 + 0) + 0) + 40) 1 0 meant worded placed to_worded assigned in
       let emitted = emits (within_is_safe room (1 * (40 * (4 * (n + 8) * (1 * 5)))) (1 * (40 * (4 * (n + 8) * (1 * 5 + 0) + 0) + 40) + 0) meant placed to_placed) in
       let to_itemed : KeepsWithin room (13 * (1 * (40 * (4 * (n + 8) * (1 * 5))))) (13 * (1 * (40 * (4 * (n + 8) * (1 * 5 + 0) + 0) + 40) + 0) + 13) meant itemed =
-          within_then_alike room (1 * (40 * (4 * (n + 8) * (1 * 5)))) (1 * (40 * (4 * (n + 8) * (1 * 5 + 0) + 0) + 40) + 0) 13 13 meant placed itemed to_placed emitted in
+      within_then_alike room (1 * (40 * (4 * (n + 8) * (1 * 5)))) (1 * (40 * (4 * (n + 8) * (1 * 5 + 0) + 0) + 40) + 0) 13 13 meant placed itemed to_placed emitted in
       within_with_more room (13 * (1 * (40 * (4 * (n + 8) * (1 * 5))))) (13 * (1 * (40 * (4 * (n + 8) * (1 * 5 + 0) + 0) + 40) + 0) + 13) (10467 * (n + 8)) (10467 * (n + 8)) meant itemed (factor_enough n) (once_enough n) to_itemed
 
 -- the shared parts, and so the size, are the unit's all the way

@@ -20,11 +20,7 @@ pub fn push_literal(frames: &Frames, k: u32, words: &mut Vec<StaticWord>) -> Res
 }
 
 /// The words of a print name; of none where it isn't there.
-pub fn push_print_name(
-    frames: &Frames,
-    n: u32,
-    words: &mut Vec<StaticWord>,
-) -> Result<(), Memory>
+pub fn push_print_name(frames: &Frames, n: u32, words: &mut Vec<StaticWord>) -> Result<(), Memory>
     ensures { OnOk result (words.new.items ≡ words.old.items ++ text_words (bytes_of frames.now.shared (PrintName n))) }
 {
     if n < frames.shared.names.count() {
