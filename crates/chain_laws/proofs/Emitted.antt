@@ -7,16 +7,12 @@ use Rattle.word_ir.specs.declared.placed.Home.TheVariants as home
 use Rattle.word_ir.specs.declared.placed.Placed.{Placed}
 use Rattle.word_ir.specs.Names.{image_names}
 use Rattle.word_ir.specs.Step.{placed_run}
-use Rattle.trace_regs.specs.Homes.{IsOutside}
 use Rattle.m68020_asm.specs.Items.{CanAssemble}
 use Rattle.lap_paths.specs.Paths.{Assembly}
 use Rattle.lap_simulation.specs.Laws.{EmittedKeeps}
 use Rattle.image_runs.specs.Images.{Assembled, items_run}
 use Rattle.passes_keep.specs.Chains.{word_sizes}
 use Rattle.chain_laws.specs.Laws.{EmittedIsKept}
-
-outside_at : (homes : List Home) (k n : ℕ) → slice_get homes k ≡ Some (home.Stack n) → All IsOutside homes → ⊥
-outside_at homes k n e h = subst IsOutside (get_or_from_slice_get homes k (home.Stack n) (home.Stack n) e) (h k (home.Stack n) (slice_get_within homes k (home.Stack n) e))
 
 abbrev assembly_of : Placed → (a : Assembled) → CanAssemble a.items → Assembly
 assembly_of placed a can = record { names = image_names placed.words.shared.names; items = a.items; bytes = a.bytes; labels = a.labels; assembled = a.are; can = can }
@@ -30,7 +26,6 @@ emitted_is_kept keeps words placed a serves emitted bytes can sizes are safe =
       emitted = emitted;
       bytes = bytes;
       names = refl;
-      no_stack_homes = λ k n e. outside_at placed.at.items k n e serves.outside;
       heap_is = are.heap;
       stack_is = are.stack;
     }) safe)
